@@ -1,0 +1,94 @@
+//! The top call, which does all that the program does.
+ghost use Rattle.std.specs.Prelude.{◌≡◌, ◌≤◌, ◌⊎◌, ◌↔◌, max, IfSome};
+ghost use Rattle.board_io.specs.Faults.{Rose};
+ghost use Rattle.group_board.specs.Limits.{piece_limit};
+ghost use Rattle.group_board.specs.Words.{IsAdmin};
+ghost use Rattle.group_board.specs.Outcome.{SaysOf, PutsNothing, ReadsToEnd, status_of};
+
+use crate::admin::{ScriptFault, admin};
+use crate::output::fault_text;
+use crate::reading::{ReadFailure, read_text};
+use crate::status::Status;
+use crate::words::is_admin;
+use crate::writing::put_all;
+use board_io::{Gate, PutAnswer, Sink, Source};
+use std::alloc::Global;
+use std::sync::Wait;
+use std::thread::Threads;
+
+/// The longest input, in bytes.
+pub const TEXT_LIMIT: usize = 1_048_576;
+
+/// The longest piece that is read or put at once, in bytes.
+pub const PIECE_LIMIT: usize = 4096;
+
+/// Performs the command that the words name, from what the source gives to what the sink takes.
+pub fn board_once<R: Source, W: Sink>(
+    alloc: Global,
+    words: &[String],
+    source: &mut R,
+    sink: &mut W,
+) -> Status
+    ensures usage { (result ≡ Status.Usage) ↔ (IsAdmin words.now → ⊥) }
+    ensures untouched { result ≡ Status.Usage → (source.new ≡ source.old) × (sink.new ≡ sink.old) }
+    ensures text { IfSome (R.left source.old) (λ text. SaysOf result text (W.held sink.old) (W.held sink.new)) }
+    ensures nothing { PutsNothing result (W.held sink.old) (W.held sink.new) }
+    ensures to_end { IfSome (R.left source.old) (λ text. ReadsToEnd result (R.left source.new)) }
+    ensures read_fault { result ≡ Status.ReadFault → Rose (R.faults source.old) (R.faults source.new) }
+    ensures write_fault { result ≡ Status.WriteFault → Rose (W.faults sink.old) (W.faults sink.new) }
+    ensures pieces_read { R.widest source.new ≤ max (R.widest source.old) piece_limit }
+    ensures pieces_put { W.widest sink.new ≤ max (W.widest sink.old) piece_limit }
+    ensures complete { IfSome (R.left source.old) (λ text. IsAdmin words.now
+        → (Rose (R.faults source.old) (R.faults source.new) → ⊥) → (Rose (W.faults sink.old) (W.faults sink.new) → ⊥)
+        → (result ≡ status_of text) ⊎ (result ≡ Status.NoMemory)) }
+{
+    if !is_admin(words) {
+        return Status::Usage;
+    }
+    let text = match read_text(alloc, source) {
+        Ok(text) => text,
+        Err(ReadFailure::Fault) => return Status::ReadFault,
+        Err(ReadFailure::TooLong) => return Status::TooLong,
+        Err(ReadFailure::NoMemory) => return Status::NoMemory,
+    };
+    match admin(alloc, text.as_slice()) {
+        Ok(output) => match put_all(sink, output.as_slice()) {
+            PutAnswer::Put => Status::Done,
+            PutAnswer::Failed => Status::WriteFault,
+        },
+        Err(ScriptFault::Bad { line, cause }) => match fault_text(alloc, line, cause) {
+            Ok(message) => match put_all(sink, message.as_bytes()) {
+                PutAnswer::Put => Status::BadScript { line, cause },
+                PutAnswer::Failed => Status::WriteFault,
+            },
+            Err(_) => Status::NoMemory,
+        },
+        Err(ScriptFault::NoMemory) => Status::NoMemory,
+    }
+}
+
+/// Performs the command that the words name, as `board_once` does. No command of several actors is there yet,
+/// so nothing waits at the gate.
+pub fn board<Rt: Wait + Threads + Sync, R: Source, W: Sink, G: Gate + Sync>(
+    _rt: &Rt,
+    alloc: Global,
+    words: &[String],
+    source: &mut R,
+    sink: &mut W,
+    _gate: &G,
+) -> Status
+    ensures usage { (result ≡ Status.Usage) ↔ (IsAdmin words.now → ⊥) }
+    ensures untouched { result ≡ Status.Usage → (source.new ≡ source.old) × (sink.new ≡ sink.old) }
+    ensures text { IfSome (R.left source.old) (λ text. SaysOf result text (W.held sink.old) (W.held sink.new)) }
+    ensures nothing { PutsNothing result (W.held sink.old) (W.held sink.new) }
+    ensures to_end { IfSome (R.left source.old) (λ text. ReadsToEnd result (R.left source.new)) }
+    ensures read_fault { result ≡ Status.ReadFault → Rose (R.faults source.old) (R.faults source.new) }
+    ensures write_fault { result ≡ Status.WriteFault → Rose (W.faults sink.old) (W.faults sink.new) }
+    ensures pieces_read { R.widest source.new ≤ max (R.widest source.old) piece_limit }
+    ensures pieces_put { W.widest sink.new ≤ max (W.widest sink.old) piece_limit }
+    ensures complete { IfSome (R.left source.old) (λ text. IsAdmin words.now
+        → (Rose (R.faults source.old) (R.faults source.new) → ⊥) → (Rose (W.faults sink.old) (W.faults sink.new) → ⊥)
+        → (result ≡ status_of text) ⊎ (result ≡ Status.NoMemory)) }
+{
+    board_once(alloc, words, source, sink)
+}
