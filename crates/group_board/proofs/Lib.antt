@@ -1,3 +1,2 @@
 pub mod LineWords
 pub mod Commands
-pub mod ShortHex

@@ -6,5 +6,5 @@ abbrev pub text_limit : ℕ
 text_limit = 1048576
 
 -- the longest piece that is read or put at once, in bytes
-abbrev pub piece_limit : ℕ
-piece_limit = 4096
+abbrev pub transfer_limit : ℕ
+transfer_limit = 4096

@@ -3,7 +3,7 @@ use Rattle.std.specs.Prelude.{◌≡◌, ◌≤◌, ℕ, ◌==◌, ◌||◌, nat
 use Rattle.std.specs.List.{slice_split}
 use Rattle.std.specs.Str.{bytes_eq}
 use Rattle.board_text.specs.Number.{number_of}
-use Rattle.board_text.specs.Hex.{hex_bytes}
+use Rattle.board_text.specs.Hex.{hex_piece}
 use Rattle.group_board.specs.declared.line.Asked.{Asked}
 use Rattle.group_board.specs.declared.line.Line.{Line}
 use Rattle.group_board.specs.declared.line.Line.TheVariants.{Ignored, Asks}
@@ -16,17 +16,13 @@ abbrev pub up_to_256 : Option ℕ → Option ℕ
 up_to_256 None = None
 up_to_256 (Some n) = if nat_le n 256 then Some n else None
 
-abbrev pub short_bytes : Option (List ℕ) → Option (List ℕ)
-short_bytes None = None
-short_bytes (Some bytes) = if nat_le (length bytes) 256 then Some bytes else None
-
 -- a number of at most 256
 abbrev pub writable_of : List ℕ → Option ℕ
 writable_of word = up_to_256 (number_of word)
 
 -- hex digits of at most 256 bytes, or `-` for no byte
 abbrev pub bytes_of : List ℕ → Option (List ℕ)
-bytes_of word = if bytes_eq word (codes "-") then Some [] else short_bytes (hex_bytes word)
+bytes_of word = if bytes_eq word (codes "-") then Some [] else hex_piece word
 
 abbrev pub asks : Option ℕ → Option (List ℕ) → Option Line
 asks (Some writable) (Some bytes) = Some (Asks (record { writable = writable; bytes = bytes }))

@@ -1,9 +1,8 @@
 //! One line of the input.
 ghost use Rattle.std.specs.Prelude.{◌≡◌, ◌≤◌, ◌==◌, ◌∷◌, [], MatchOption, IfSome, position};
-ghost use Rattle.group_board.specs.Line.{words_of, writable_of, bytes_of, short_bytes, form_of, line_of, Fits};
-ghost use Rattle.board_text.specs.Hex.{hex_bytes};
+ghost use Rattle.group_board.specs.Line.{words_of, writable_of, bytes_of, form_of, line_of, Fits};
 
-use board_text::{Piece, read_decimal};
+use board_text::{Piece, read_decimal, read_hex_piece};
 
 /// An administration command, and how many bytes its device-writable part has.
 #[derive(Debug, Drop)]
@@ -50,21 +49,6 @@ fn read_writable(word: &[u8]) -> Option<u32>
     }
 }
 
-// The bytes of at most 256 that the digits spell.
-fn read_short_hex(word: &[u8]) -> Option<Piece>
-    ensures { result ≡ short_bytes (hex_bytes word.now) }
-{
-    let count = word.len() / 2;
-    if word.is_empty() || count > PART_LIMIT {
-        return None;
-    }
-    let mut bytes = [0; PART_LIMIT];
-    match hex::decode_to_slice(word, &mut bytes[..count]) {
-        Ok(()) => Some(Piece::from_slice(&bytes[..count])),
-        Err(_) => None,
-    }
-}
-
 // The bytes of a command.
 fn read_bytes(word: &[u8]) -> Option<Piece>
     ensures { result ≡ bytes_of word.now }
@@ -72,7 +56,7 @@ fn read_bytes(word: &[u8]) -> Option<Piece>
     if word == b"-".as_slice() {
         return Some(Piece::from_slice(&[]));
     }
-    read_short_hex(word)
+    read_hex_piece(word)
 }
 
 // A line that is not ignored.

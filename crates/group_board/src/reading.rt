@@ -1,10 +1,10 @@
 //! Reading a source to its end.
 ghost use Rattle.std.specs.Prelude.{◌≡◌, ◌≤◌, max, IsErrOf};
 ghost use Rattle.board_io.specs.Faults.{Rose};
-ghost use Rattle.group_board.specs.Limits.{piece_limit};
+ghost use Rattle.group_board.specs.Limits.{transfer_limit};
 ghost use Rattle.group_board.specs.Reading.{ReadsAll};
 
-use crate::top::{PIECE_LIMIT, TEXT_LIMIT};
+use crate::top::{TRANSFER_LIMIT, TEXT_LIMIT};
 use board_io::{Source, Taken};
 use board_text::Bytes;
 use std::alloc::Global;
@@ -21,12 +21,12 @@ pub enum ReadFailure {
 pub fn read_text<R: Source>(alloc: Global, source: &mut R) -> Result<Bytes, ReadFailure>
     ensures text { ReadsAll (R.left source.old) (R.left source.new) result }
     ensures never_falls { R.faults source.old ≤ R.faults source.new }
-    ensures widest { R.widest source.new ≤ max (R.widest source.old) piece_limit }
+    ensures widest { R.widest source.new ≤ max (R.widest source.old) transfer_limit }
     ensures fault { IsErrOf result ReadFailure.Fault → Rose (R.faults source.old) (R.faults source.new) }
 {
     let mut text = Bytes::new(alloc);
     let mut length = 0;
-    let mut piece = [0; PIECE_LIMIT];
+    let mut piece = [0; TRANSFER_LIMIT];
     'reading: loop {
         match source.take(&mut piece) {
             Taken::Bytes(count) => {

@@ -30,7 +30,7 @@ impl Source for Pieces<'_> {
             Some(length) => *length,
             None => buf.len(),
         };
-        self.next = (self.next + 1) % self.lengths.len().max(1);
+        self.next = self.next.wrapping_add(1) % self.lengths.len().max(1);
         let length = length.max(1).min(buf.len());
         self.whole.take(&mut buf[..length])
     }

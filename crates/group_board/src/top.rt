@@ -1,7 +1,7 @@
 //! The top call, which does all that the program does.
 ghost use Rattle.std.specs.Prelude.{◌≡◌, ◌≤◌, ◌⊎◌, ◌↔◌, max, IfSome};
 ghost use Rattle.board_io.specs.Faults.{Rose};
-ghost use Rattle.group_board.specs.Limits.{piece_limit};
+ghost use Rattle.group_board.specs.Limits.{transfer_limit};
 ghost use Rattle.group_board.specs.Words.{IsAdmin};
 ghost use Rattle.group_board.specs.Outcome.{SaysOf, PutsNothing, ReadsToEnd, status_of};
 
@@ -20,7 +20,7 @@ use std::thread::Threads;
 pub const TEXT_LIMIT: usize = 1_048_576;
 
 /// The longest piece that is read or put at once, in bytes.
-pub const PIECE_LIMIT: usize = 4096;
+pub const TRANSFER_LIMIT: usize = 4096;
 
 /// Performs the command that the words name, from what the source gives to what the sink takes.
 pub fn board_once<R: Source, W: Sink>(
@@ -36,8 +36,8 @@ pub fn board_once<R: Source, W: Sink>(
     ensures to_end { IfSome (R.left source.old) (λ text. ReadsToEnd result (R.left source.new)) }
     ensures read_fault { result ≡ Status.ReadFault → Rose (R.faults source.old) (R.faults source.new) }
     ensures write_fault { result ≡ Status.WriteFault → Rose (W.faults sink.old) (W.faults sink.new) }
-    ensures pieces_read { R.widest source.new ≤ max (R.widest source.old) piece_limit }
-    ensures pieces_put { W.widest sink.new ≤ max (W.widest sink.old) piece_limit }
+    ensures pieces_read { R.widest source.new ≤ max (R.widest source.old) transfer_limit }
+    ensures pieces_put { W.widest sink.new ≤ max (W.widest sink.old) transfer_limit }
     ensures complete { IfSome (R.left source.old) (λ text. IsAdmin words.now
         → (Rose (R.faults source.old) (R.faults source.new) → ⊥) → (Rose (W.faults sink.old) (W.faults sink.new) → ⊥)
         → (result ≡ status_of text) ⊎ (result ≡ Status.NoMemory)) }
@@ -84,8 +84,8 @@ pub fn board<Rt: Wait + Threads + Sync, R: Source, W: Sink, G: Gate + Sync>(
     ensures to_end { IfSome (R.left source.old) (λ text. ReadsToEnd result (R.left source.new)) }
     ensures read_fault { result ≡ Status.ReadFault → Rose (R.faults source.old) (R.faults source.new) }
     ensures write_fault { result ≡ Status.WriteFault → Rose (W.faults sink.old) (W.faults sink.new) }
-    ensures pieces_read { R.widest source.new ≤ max (R.widest source.old) piece_limit }
-    ensures pieces_put { W.widest sink.new ≤ max (W.widest sink.old) piece_limit }
+    ensures pieces_read { R.widest source.new ≤ max (R.widest source.old) transfer_limit }
+    ensures pieces_put { W.widest sink.new ≤ max (W.widest sink.old) transfer_limit }
     ensures complete { IfSome (R.left source.old) (λ text. IsAdmin words.now
         → (Rose (R.faults source.old) (R.faults source.new) → ⊥) → (Rose (W.faults sink.old) (W.faults sink.new) → ⊥)
         → (result ≡ status_of text) ⊎ (result ≡ Status.NoMemory)) }

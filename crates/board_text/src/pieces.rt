@@ -1,0 +1,111 @@
+//! At most 256 bytes, which take no memory.
+ghost use Rattle.std.specs.Prelude.{◌≡◌, ◌+◌, ◌<◌, ◌≤◌, [], ◌∷◌, ◌++◌, length, take};
+
+use arrayvec::ArrayVec;
+use std::marker::Model;
+
+/// How many bytes a piece has at most: a limit of this project.
+pub const PIECE_LIMIT: usize = 256;
+
+/// At most 256 bytes, which lie in the value itself: a command, a completion, or the data of an access.
+#[derive(Debug, Drop)]
+pub struct Piece {
+    items: ArrayVec<u8, PIECE_LIMIT>,
+}
+
+impl Model for Piece {
+    ghost use Rattle.std.specs.Prelude.{ℕ, ◌≤◌, List, length};
+
+    ghost Value = { List ℕ };
+
+    ghost view = { λ p. p.items.items };
+
+    ghost invariant = { λ p. length p.items.items ≤ 256 };
+}
+
+impl Piece {
+    /// No bytes.
+    pub fn new() -> Piece
+        ensures { result ≡ [] }
+    {
+        Piece {
+            items: ArrayVec::new(),
+        }
+    }
+
+    /// A copy of at most 256 bytes.
+    pub fn from_slice(bytes: &[u8]) -> Piece
+        requires { length bytes.now ≤ 256 }
+        ensures { result ≡ bytes.now }
+    {
+        let mut items = ArrayVec::new();
+        items.try_extend_from_slice(bytes).unwrap();
+        Piece { items }
+    }
+
+    /// The same bytes once more.
+    pub fn copy(&self) -> Piece
+        ensures { result ≡ self.now }
+    {
+        Piece::from_slice(self.as_slice())
+    }
+
+    /// At most so many bytes from the front.
+    pub fn first(&self, most: u32) -> Piece
+        ensures { result ≡ take most self.now }
+    {
+        let bytes = self.as_slice();
+        Piece::from_slice(&bytes[..bytes.len().min(most as usize)])
+    }
+
+    /// Appends one byte, for which there is room.
+    pub fn push(&mut self, byte: u8)
+        requires { length self.old < 256 }
+        ensures { self.new ≡ self.old ++ byte ∷ [] }
+    {
+        self.items.push(byte);
+    }
+
+    /// Appends bytes, for all of which there is room.
+    pub fn extend(&mut self, bytes: &[u8])
+        requires { length self.old + length bytes.now ≤ 256 }
+        ensures { self.new ≡ self.old ++ bytes.now }
+    {
+        self.items.try_extend_from_slice(bytes).unwrap();
+    }
+
+    /// Drops what stands behind so many bytes.
+    pub fn truncate(&mut self, most: u32)
+        ensures { self.new ≡ take most self.old }
+    {
+        self.items.truncate(most as usize);
+    }
+
+    /// The bytes, lent. There are at most 256.
+    pub fn as_slice(&self) -> &[u8]
+        ensures bytes { result.now ≡ self.now }
+        ensures fits { length self.now ≤ 256 }
+    {
+        self.items.as_slice()
+    }
+}
+
+impl PartialEq for Piece {
+    ghost use Rattle.std.specs.Prelude.{bytes_eq};
+    ghost use Rattle.std.specs.Cmp.{partial_equiv_from_equiv};
+    ghost use Rattle.std.specs.Cmp.Lexicographic.{nat_list_eq_equiv};
+
+    ghost eq = { bytes_eq };
+
+    ghost laws = { partial_equiv_from_equiv nat_list_eq_equiv };
+
+    fn eq(&self, other: &Piece) -> bool {
+        self.as_slice() == other.as_slice()
+    }
+}
+
+impl Eq for Piece {
+    ghost use Rattle.std.specs.Cmp.Lexicographic.{nat_list_eq_equiv};
+
+    ghost laws = { nat_list_eq_equiv };
+}
