@@ -1,0 +1,25 @@
+//! The numbers of commands and of the group type (VIRTIO 1.3, 2.12 and 2.12.1).
+
+/// The opcode of LIST_QUERY: which opcodes does the device know?
+pub const LIST_QUERY: u16 = 0;
+
+/// The opcode of LIST_USE: these are the opcodes that the driver uses.
+pub const LIST_USE: u16 = 1;
+
+/// The opcode of LEGACY_COMMON_CFG_WRITE.
+pub const LEGACY_COMMON_CFG_WRITE: u16 = 2;
+
+/// The opcode of LEGACY_COMMON_CFG_READ.
+pub const LEGACY_COMMON_CFG_READ: u16 = 3;
+
+/// The opcode of LEGACY_DEV_CFG_WRITE.
+pub const LEGACY_DEV_CFG_WRITE: u16 = 4;
+
+/// The opcode of LEGACY_DEV_CFG_READ.
+pub const LEGACY_DEV_CFG_READ: u16 = 5;
+
+/// The opcode of LEGACY_NOTIFY_INFO.
+pub const LEGACY_NOTIFY_INFO: u16 = 6;
+
+/// The group type whose members are the virtual functions of a physical function.
+pub const SR_IOV: u16 = 1;
