@@ -1,0 +1,4 @@
+pub mod Walked
+pub mod Steps
+pub mod Told
+pub mod Pairs

@@ -1,0 +1,12 @@
+-- What a chain keeps beside its buffers: at most 256 of them, how many bytes they have of either kind, and that no
+-- buffer is longer than the largest memory. Of this project.
+use Rattle.std.specs.Prelude.{◌≡◌, ◌+◌, ◌*◌, ◌≤◌, length}
+use Rattle.guest_mem.specs.Pages.{memory_limit}
+use Rattle.ring_layout.specs.Chain.{total_length, readable_part, writable_part}
+use Rattle.ring_device.specs.declared.chain.Chain.TheInside.{Inside}
+
+pub record AreKept (c : Inside) : Type 0 where
+  pub few : length c.parts.items ≤ 256
+  pub readable : c.readable ≡ total_length (readable_part c.parts.items)
+  pub writable : c.writable ≡ total_length (writable_part c.parts.items)
+  pub bound : c.readable + c.writable ≤ memory_limit * length c.parts.items
