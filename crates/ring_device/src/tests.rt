@@ -66,22 +66,31 @@ fn a_block_request_is_a_chain(rt: HostRuntime) -> Result<(), Fail> {
     Ok(())
 }
 
-// What stands at position 0, in one letter: a chain, nothing, a bad index or a bad chain.
-fn found_with(alloc: Global, first: [u8; 16], avail: [u8; 6]) -> Option<u8> {
+// What stands at a position, without the chain.
+#[derive(Clone, Copy, Debug, PartialEq, Eq)]
+enum Stands {
+    Chain,
+    Nothing,
+    BadIndex,
+    BadChain,
+}
+
+// What stands at position 0 of a ring with this first descriptor and this front of the available ring.
+fn found_with(alloc: Global, first: [u8; 16], avail: [u8; 6]) -> Option<Stands> {
     let mut mem = GuestMem::new(alloc, 4).ok()?;
     mem.write(4096, &TABLE);
     mem.write(4096, &first);
     mem.write(4352, &avail);
     let layout = legacy(1, MEMBER_RING_SIZE, mem.length())?;
     match next_chain(alloc, &mem, &layout, 0).ok()? {
-        Found::Chain(_) => Some(b'c'),
-        Found::Empty => Some(b'e'),
-        Found::Bad(Bad::Index) => Some(b'i'),
-        Found::Bad(Bad::Chain) => Some(b'b'),
+        Found::Chain(_) => Some(Stands::Chain),
+        Found::Empty => Some(Stands::Nothing),
+        Found::Bad(Bad::Index) => Some(Stands::BadIndex),
+        Found::Bad(Bad::Chain) => Some(Stands::BadChain),
     }
 }
 
-// A descriptor at 0x3000, or at another address of two bytes, by its length, flags and follower.
+// A descriptor by the second byte of its address, the length, the flags and the follower; all other bytes are 0.
 const fn first(addr: u8, len: u8, flags: u8, next: u8) -> [u8; 16] {
     [0, addr, 0, 0, 0, 0, 0, 0, len, 0, 0, 0, flags, 0, next, 0]
 }
@@ -94,24 +103,28 @@ fn broken_rings_are_told_apart(rt: HostRuntime) {
     ];
     let odd_flags = [0, 0x30, 0, 0, 0, 0, 0, 0, 16, 0, 0, 0, 1, 0x80, 1, 0];
     let at_the_end = [0xff, 0x3f, 0, 0, 0, 0, 0, 0, 1, 0, 0, 0, 1, 0, 1, 0];
-    for (row, (descriptor, avail, want)) in [
-        (first(0x30, 16, 1, 1), one, b'c'),
-        (first(0x30, 16, 1, 1), [0, 0, 0, 0, 0, 0], b'e'),
-        (first(0x30, 16, 1, 1), [0, 0, 16, 0, 0, 0], b'c'),
-        (first(0x30, 16, 1, 1), [0, 0, 17, 0, 0, 0], b'i'),
-        (first(0x30, 16, 1, 1), [0, 0, 0x2c, 1, 0, 0], b'i'),
-        (first(0x30, 16, 1, 1), [0, 0, 1, 0, 16, 0], b'b'),
-        (first(0x30, 16, 1, 0), one, b'b'),
-        (first(0x30, 16, 1, 16), one, b'b'),
-        (first(0x30, 16, 3, 1), one, b'b'),
-        (first(0x30, 16, 4, 0), one, b'b'),
-        (first(0x30, 16, 5, 1), one, b'b'),
-        (first(0x30, 16, 0, 1), one, b'c'),
-        (first(0x40, 0, 1, 1), one, b'c'),
-        (first(0x41, 0, 1, 1), one, b'b'),
-        (at_the_end, one, b'c'),
-        (past, one, b'b'),
-        (odd_flags, one, b'c'),
+    for (case, (descriptor, avail, want)) in [
+        (first(0x30, 16, 1, 1), one, Stands::Chain),
+        (first(0x30, 16, 1, 1), [0, 0, 0, 0, 0, 0], Stands::Nothing),
+        (first(0x30, 16, 1, 1), [0, 0, 16, 0, 0, 0], Stands::Chain),
+        (first(0x30, 16, 1, 1), [0, 0, 17, 0, 0, 0], Stands::BadIndex),
+        (
+            first(0x30, 16, 1, 1),
+            [0, 0, 0x2c, 1, 0, 0],
+            Stands::BadIndex,
+        ),
+        (first(0x30, 16, 1, 1), [0, 0, 1, 0, 16, 0], Stands::BadChain),
+        (first(0x30, 16, 1, 0), one, Stands::BadChain),
+        (first(0x30, 16, 1, 16), one, Stands::BadChain),
+        (first(0x30, 16, 3, 1), one, Stands::BadChain),
+        (first(0x30, 16, 4, 0), one, Stands::BadChain),
+        (first(0x30, 16, 5, 1), one, Stands::BadChain),
+        (first(0x30, 16, 0, 1), one, Stands::Chain),
+        (first(0x40, 0, 1, 1), one, Stands::Chain),
+        (first(0x41, 0, 1, 1), one, Stands::BadChain),
+        (at_the_end, one, Stands::Chain),
+        (past, one, Stands::BadChain),
+        (odd_flags, one, Stands::Chain),
     ]
     .into_iter()
     .enumerate()
@@ -119,7 +132,7 @@ fn broken_rings_are_told_apart(rt: HostRuntime) {
         assert_eq!(rt;
             found_with(rt.alloc(), descriptor, avail),
             Some(want),
-            "row {row}"
+            "case {case}"
         );
     }
 }
