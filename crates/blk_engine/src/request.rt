@@ -113,7 +113,8 @@ fn reply_to(
     requires member { member ≤ 999 }
     requires room { room < 2 ^ 32 }
     requires inside { kind ≡ 0 → status ≡ 0 → 512 * sector + room ≤ length disk.now }
-    ensures bytes { IfOk result (λ reply. reply ≡ padded room (data_of member disk.now kind sector room status) ++ status ∷ []) }
+    ensures bytes { IfOk result (λ reply. reply
+        ≡ padded room (data_of member disk.now kind sector room status) ++ status ∷ []) }
     ensures size { IfOk result (λ reply. length reply ≡ room + 1) }
 {
     if status != OK {
@@ -129,7 +130,9 @@ fn reply_to(
 // Puts data on the disk, where the request asks for it and is fine.
 fn put_sectors(disk: &mut Disk, kind: u32, sector: u64, status: u8, content: &[u8])
     requires { kind ≡ 1 → status ≡ 0 → 512 * sector + length content.now ≤ length disk.old }
-    ensures { disk.new ≡ (if (kind == 1) && (status == 0) then overwrite (512 * sector) content.now disk.old else disk.old) }
+    ensures { disk.new ≡ (if (kind == 1) && (status == 0)
+        then overwrite (512 * sector) content.now disk.old
+        else disk.old) }
 {
     if kind == OUT && status == OK {
         disk.write(sector, content);

@@ -59,8 +59,10 @@ impl Backlog {
     /// Lets a frame wait. `Full` exactly where 64 wait; then nothing changes. Of the frame's length nothing is asked. It takes
     /// no memory.
     pub fn arrive(&mut self, frame: Bytes) -> Arrival
-        ensures answer { result ≡ (if nat_lt (length self.old) backlog_limit then Arrival.Kept else Arrival.Full frame) }
-        ensures frames { self.new ≡ (if nat_lt (length self.old) backlog_limit then self.old ++ frame ∷ [] else self.old) }
+        ensures answer { result ≡ (if nat_lt (length self.old) backlog_limit then Arrival.Kept
+            else Arrival.Full frame) }
+        ensures frames { self.new ≡ (if nat_lt (length self.old) backlog_limit then self.old ++ frame ∷ []
+            else self.old) }
     {
         if self.frames.len() >= BACKLOG_LIMIT {
             return Arrival::Full(frame);

@@ -48,7 +48,8 @@ impl Chain {
     pub(crate) fn push(&mut self, part: Descriptor) -> Result<(), NoMemory>
         requires few { length self.old.parts < 256 }
         requires small { part.len ≤ memory_limit }
-        ensures ok { OnOk result (self.new ≡ record { head = self.old.head; parts = self.old.parts ++ part ∷ [] }) }
+        ensures ok { OnOk result (self.new
+            ≡ record { head = self.old.head; parts = self.old.parts ++ part ∷ [] }) }
         ensures err { OnErr result (self.new ≡ self.old) }
     {
         self.parts.push(part)?;
