@@ -1,0 +1,69 @@
+-- What the queue keeps, as equations over its history. Of this project.
+use Rattle.std.specs.Prelude.{◌≡◌, ◌≢◌, ℕ, ◌+◌, ◌-◌, ◌≤◌, ◌^◌, ◌/◌, nat_lt, Bool, true, false, List, [], ◌∷◌, length, Option, Some, None, is_some, if◌then◌else◌}
+use Rattle.slab.specs.Slab.{Slab, get, slab_len}
+use Rattle.history.specs.Legal.{IsLegal}
+use Rattle.history.specs.Kept.{Kept}
+use Rattle.history.specs.Limits.{history_limit}
+use Rattle.std.specs.Prelude.{take}
+use Rattle.board_text.specs.Floors.{number_for}
+use Rattle.group_calls.specs.declared.queue.RingReply.{RingReply}
+use Rattle.group_calls.specs.declared.queue.RingReply.TheVariants.{Stale, Ready, Lost, NotYet, Empty, Fetched}
+use Rattle.group_calls.specs.Queue.{RingEntry, Posted, posted, is_fetched, completion, is_taken, closed, outstanding, command, IsNumbered, queue_answer, queue_may, is_quiet_reply}
+use Rattle.admin_ring.specs.declared.table.Slot.{Slot}
+
+abbrev pub slot_with : List RingEntry → Posted → Slot
+slot_with h p = record { seq = p.seq; bytes = p.bytes; writable = p.writable; tag = p.tag; completion = completion h p.seq }
+
+abbrev pub slot_if : List RingEntry → Posted → Option Slot
+slot_if h p = if is_taken h p.seq then None else Some (slot_with h p)
+
+abbrev pub slot_of_command : List RingEntry → Option Posted → Option Slot
+slot_of_command h None = None
+slot_of_command h (Some p) = slot_if h p
+
+-- the command of this number with its completion, while it is outstanding
+abbrev pub slot_of : List RingEntry → ℕ → Option Slot
+slot_of h s = slot_of_command h (command h s)
+
+-- the answer to a Take of what is outstanding
+abbrev pub taken_answer : Option (List ℕ) → Option Slot → RingReply
+taken_answer floors None = Stale
+taken_answer floors (Some x) = elim x.completion [ Some c ↦ Ready (take x.writable c.0) c.1 | None ↦ elim floors [ Some told ↦ Lost (number_for x.tag.guest told) | None ↦ NotYet ] ]
+
+-- the answer to a Pop over the next command
+abbrev pub fetched_answer : Option Slot → RingReply
+fetched_answer None = Empty
+fetched_answer (Some x) = Fetched x.seq x.bytes x.writable x.tag
+
+-- what stands under the keys is what the numbers have, each once
+pub record Holds (at : ℕ → Option Slot) (of : ℕ → Option Slot) : Type 0 where
+  pub sound : (key : ℕ) (x : Slot) → at key ≡ Some x → of x.seq ≡ Some x
+  pub complete : (s : ℕ) (x : Slot) → of s ≡ Some x → (key : ℕ) × (at key ≡ Some x)
+  pub distinct : (key other : ℕ) (x y : Slot) → at key ≡ Some x → at other ≡ Some y → x.seq ≡ y.seq → key ≡ other
+
+-- the numbers that were posted, fetched and completed, and the floors of the latest Reset
+pub record AreCounts (n f d : ℕ) (floors : Option (List ℕ)) (h : List RingEntry) : Type 0 where
+  pub numbered : IsNumbered (posted h)
+  pub posts : n ≡ length (posted h)
+  pub fetches : (s : ℕ) → is_fetched h s ≡ nat_lt s f
+  pub completions : (s : ℕ) → is_some (completion h s) ≡ nat_lt s d
+  pub completed_first : d ≤ f
+  pub one_in_service : f ≤ d + 1
+  pub fetched_first : f ≤ n
+  pub floors_are : floors ≡ closed h
+  pub none_taken : (s : ℕ) → n ≤ s → is_taken h s ≡ false
+  pub none_lost : floors ≡ None → (s : ℕ) → d ≤ s → is_taken h s ≡ false
+  pub few : n ≤ length h
+
+-- the entries that the commands may still leave
+abbrev pub owed : ℕ → ℕ → ℕ → ℕ → ℕ
+owed n f d held = (n - f) + (n - d) + held
+
+pub record Keeps (size n f d : ℕ) (floors : Option (List ℕ)) (table : Slab Slot) (log : Kept RingEntry) : Type 0 where
+  pub counts : AreCounts n f d floors log.entries
+  pub holds : Holds (get table) (slot_of log.entries)
+  pub held : slab_len table ≡ length (outstanding log.entries)
+  pub fits : size / 2 ≤ table.capacity
+  pub legal : IsLegal (queue_answer size) is_quiet_reply (queue_may size) log.entries
+  pub most : length log.entries + owed n f d (slab_len table) ≤ history_limit
+  pub reserved : length log.entries + owed n f d (slab_len table) ≤ log.room

@@ -1,0 +1,13 @@
+pub mod Limits
+pub mod Owner
+pub mod Queue
+pub mod MemberEntries
+pub mod MemberRegisters
+pub mod RegisterSteps
+pub mod MemberQueues
+pub mod Facts
+pub mod Steps
+pub mod Storage
+pub mod Member
+pub mod Lone
+pub mod Asks

@@ -1,0 +1,11 @@
+pub mod Runs
+pub mod Bytes
+pub mod Devices
+pub mod Owner
+pub mod Queue
+pub mod Registers
+pub mod Rings
+pub mod Block
+pub mod Network
+pub mod Ends
+pub mod Boot

@@ -1,0 +1,5 @@
+pub mod Limits
+pub mod Places
+pub mod Look
+pub mod Legal
+pub mod Kept
