@@ -5,9 +5,8 @@ use Rattle.ring_layout.specs.declared.layout.Layout.{Layout}
 use Rattle.ring_layout.specs.declared.descriptor.Descriptor.{Descriptor}
 use Rattle.ring_layout.specs.Layout.{legacy_layout}
 use Rattle.ring_layout.specs.Chain.{nothing, bad_index, bad_chain, chain, found, buffers}
-use Rattle.legacy_regs.specs.declared.TheConstants.{MEMBER_RING_SIZE}
 use Rattle.legacy_regs.specs.declared.device.Kind.TheVariants.{Block, Net}
-use Rattle.legacy_regs.specs.Registers.{queue_count, page_number}
+use Rattle.legacy_regs.specs.Registers.{member_ring_size, queue_count, page_number}
 use Rattle.group_calls.specs.declared.member.MemberMade.{MemberMade}
 use Rattle.group_calls.specs.declared.member.Halt.TheVariants.{Ring, Index, Chain}
 use Rattle.group_calls.specs.declared.member.MemberReply.TheVariants.{Empty, NotPending, Halted}
@@ -21,7 +20,7 @@ module _ (made : MemberMade) (memory disk : List ℕ) (f : Facts) (q : ℕ) wher
   pub outcome-is : outcome made memory disk f q ≡ (
       if not (nat_lt q (queue_count made.kind) && f.pending q) then stops NotPending else
       if receives made.kind q && are_none f.waiting then stops Empty else
-      ring_step made memory disk f q (legacy_layout (page_number f.registers q) MEMBER_RING_SIZE (length memory)))
+      ring_step made memory disk f q (legacy_layout (page_number f.registers q) member_ring_size (length memory)))
   unfolding outcome
   outcome-is = refl
 

@@ -6,12 +6,11 @@ use Rattle.ring_layout.specs.Layout.{legacy_layout}
 use Rattle.ring_layout.specs.Chain.{Found, nothing, bad_index, bad_chain, chain, found, available, buffers, writable_part, total_length, readable_bytes, Write, scattered, used_writes, wants_no_interrupt}
 use Rattle.blk_engine.specs.Block.{is_malformed, block_reply, disk_after_request}
 use Rattle.net_engine.specs.Frames.{with_header, transmitted}
-use Rattle.legacy_regs.specs.declared.TheConstants.{MEMBER_RING_SIZE}
 use Rattle.legacy_regs.specs.declared.device.Kind.{Kind}
 use Rattle.legacy_regs.specs.declared.device.Kind.TheVariants.{Block, Net}
 use Rattle.legacy_regs.specs.declared.interrupts.Irq.{Irq}
 use Rattle.legacy_regs.specs.declared.interrupts.Irq.TheVariants.{Silent}
-use Rattle.legacy_regs.specs.Registers.{queue_count, page_number}
+use Rattle.legacy_regs.specs.Registers.{member_ring_size, queue_count, page_number}
 use Rattle.legacy_regs.specs.Interrupts.{queue_irq}
 use Rattle.group_calls.specs.declared.member.MemberMade.{MemberMade}
 use Rattle.group_calls.specs.declared.member.Halt.TheVariants.{Ring, Index, Chain, Request}
@@ -103,7 +102,7 @@ unfoldable pub outcome : MemberMade → List ℕ → List ℕ → Facts → ℕ 
 outcome made memory disk f q =
     if not (nat_lt q (queue_count made.kind) && f.pending q) then stops NotPending else
     if receives made.kind q && are_none f.waiting then stops Empty else
-    ring_step made memory disk f q (legacy_layout (page_number f.registers q) MEMBER_RING_SIZE (length memory))
+    ring_step made memory disk f q (legacy_layout (page_number f.registers q) member_ring_size (length memory))
 
 abbrev pub outcome_reply : Outcome → MemberReply
 outcome_reply (stops reply) = reply

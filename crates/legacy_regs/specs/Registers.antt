@@ -2,7 +2,6 @@
 use Rattle.std.specs.Prelude.{ℕ, ◌^◌, nat_lt, Bool, false, if◌then◌else◌, List, [], ◌∷◌, ◌++◌, length, map, replicate, slice_index_or}
 use Rattle.std.specs.List.{sum_by}
 use Rattle.byte_fields.specs.Places.{le16, le32, bytes_of}
-use Rattle.legacy_regs.specs.declared.TheConstants.{MEMBER_RING_SIZE}
 use Rattle.legacy_regs.specs.declared.device.Kind.{Kind}
 use Rattle.legacy_regs.specs.declared.device.Kind.TheVariants.{Block, Net}
 use Rattle.legacy_regs.specs.declared.accesses.Space.{Space}
@@ -91,10 +90,14 @@ device_features kind = sum_by (λ bit. 2 ^ bit) (offered_bits kind)
 abbrev pub selected : Registers → ℕ
 selected r = le16 0 r.select
 
+-- the number of descriptors of each queue of a member (of this project)
+abbrev pub member_ring_size : ℕ
+member_ring_size = 16
+
 -- a queue that doesn't exist has size 0 (4.1.5.1.3.1), address 0 and no vector (of this project)
 
 abbrev pub queue_size : Kind → ℕ → ℕ
-queue_size kind queue = if nat_lt queue (queue_count kind) then MEMBER_RING_SIZE else 0
+queue_size kind queue = if nat_lt queue (queue_count kind) then member_ring_size else 0
 
 abbrev pub queue_address : Registers → ℕ → List ℕ
 queue_address r queue = slice_index_or r.addresses queue (0 ∷ 0 ∷ 0 ∷ 0 ∷ [])

@@ -24,6 +24,5 @@ pub use features::Features;
 pub use interrupts::Irq;
 pub use regs::Regs;
 
-/// The number of descriptors of each queue of a member (of this project). The layout of the rings has it under the same
-/// name.
+/// The number of descriptors of each queue of a member: the number `member_ring_size` of the definitions (of this project).
 pub const MEMBER_RING_SIZE: u16 = 16;
