@@ -25,6 +25,7 @@ msix_moves_the_base =
     ∷ (Call (Msix true), Other Written)
     ∷ (Read 24 4, Bytes (8 ∷ 0 ∷ 0 ∷ 0 ∷ []))
     ∷ (Read 20 2, Bytes (255 ∷ 255 ∷ []))
+    ∷ (Read 20 4, Ones)
     ∷ (Call (Msix false), Other Written)
     ∷ (Read 20 4, Bytes (8 ∷ 0 ∷ 0 ∷ 0 ∷ []))
     ∷ []
