@@ -4,7 +4,7 @@ ghost use Rattle.board_io.specs.Faults.{Rose};
 ghost use Rattle.group_board.specs.Limits.{transfer_limit};
 ghost use Rattle.group_board.specs.Reading.{ReadsAll};
 
-use crate::top::{TRANSFER_LIMIT, TEXT_LIMIT};
+use crate::top::{TEXT_LIMIT, TRANSFER_LIMIT};
 use board_io::{Source, Taken};
 use board_text::Bytes;
 use std::alloc::Global;
