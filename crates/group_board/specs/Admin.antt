@@ -1,5 +1,5 @@
 -- What the command `admin` answers to a text.
-use Rattle.std.specs.Prelude.{◌≡◌, ℕ, ◌+◌, List, [], ◌∷◌, ◌++◌, Option, Some, None, Result, Ok, Err}
+use Rattle.std.specs.Prelude.{ℕ, ◌+◌, List, [], ◌∷◌, ◌++◌, Option, Some, None, Result, Ok, Err}
 use Rattle.board_text.specs.Line.{lines_of}
 use Rattle.owner_core.specs.Verdict.{Entry, verdict}
 use Rattle.group_board.specs.declared.line.Asked.{Asked}

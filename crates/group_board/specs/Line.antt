@@ -1,10 +1,9 @@
 -- What a line of the input asks.
-use Rattle.std.specs.Prelude.{◌≡◌, ◌≤◌, ℕ, ◌==◌, ◌||◌, nat_le, nat_lt, if◌then◌else◌, List, [], ◌∷◌, length, slice_index, codes, Option, Some, None}
+use Rattle.std.specs.Prelude.{◌≤◌, ℕ, ◌==◌, ◌||◌, nat_le, if◌then◌else◌, List, [], ◌∷◌, length, slice_index, codes, Option, Some, None}
 use Rattle.std.specs.List.{slice_split}
 use Rattle.std.specs.Str.{bytes_eq}
 use Rattle.board_text.specs.Number.{number_of}
 use Rattle.board_text.specs.Hex.{hex_piece}
-use Rattle.group_board.specs.declared.line.Asked.{Asked}
 use Rattle.group_board.specs.declared.line.Line.{Line}
 use Rattle.group_board.specs.declared.line.Line.TheVariants.{Ignored, Asks}
 

@@ -1,8 +1,8 @@
-use Rattle.std.proofs.Common.{◌+◌, ◌∙◌, drop, ap, sym, arith, rules, subst, List, ℕ}
+use Rattle.std.proofs.Common.{drop, arith, rules}
 use Rattle.std.specs.Prelude.{slice_range}
 use Rattle.board_text.specs.Line.{lines_of}
 use Rattle.group_board.specs.Admin.{commands_of}
-use Rattle.group_board.proofs.Commands.{SoFar, at_begin, one_line_on}
+use Rattle.group_board.proofs.Commands.{at_begin, one_line_on}
 use Rattle.group_board.proofs.admin.admin.Goals as goal
 
 pub lines-init : goal.lines-init

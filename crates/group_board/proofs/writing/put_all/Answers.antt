@@ -1,7 +1,5 @@
-use Rattle.std.proofs.Common.{◌≡◌, ◌+◌, ◌-◌, List, ℕ, take, drop, ap, subst, arith}
+use Rattle.std.proofs.Common.{◌≡◌, ◌+◌, ◌-◌, drop, arith}
 use Rattle.std.proofs.lemmas.List.{length-take}
-use Rattle.std.specs.Io.KnownBytes.{Appends}
-use Rattle.board_io.specs.Sink.{AppendsPrefix}
 use Rattle.board_io.proofs.Known.{Appends-more, AppendsPrefix-more}
 use Rattle.group_board.proofs.writing.put_all.Goals as goal
 
