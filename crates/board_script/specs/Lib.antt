@@ -1,0 +1,5 @@
+pub mod SoFar
+pub mod Rows
+pub mod Script
+pub mod Bounds
+pub mod Admin

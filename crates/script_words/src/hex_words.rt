@@ -1,0 +1,93 @@
+//! What a word stands for where it must be hex.
+ghost use Rattle.std.specs.Prelude.{◌≡◌, ◌≤◌, IfOk, length, is_some, None, IsSome};
+ghost use Rattle.std.specs.List.{list_all};
+ghost use Rattle.hex.specs.Hex.{is_hex_digit};
+ghost use Rattle.board_text.specs.Hex.{hex_bytes};
+ghost use Rattle.script_words.specs.Values.{Gives, bytes_in, bytes_of_width};
+
+use crate::cause::{Cause, Fault};
+use crate::values::is_width;
+use crate::words::Word;
+use board_text::{Bytes, HexFault, Piece, read_hex, read_hex_piece};
+use std::alloc::Global;
+
+/// Bytes of a number within bounds, of any number. `hex` where the word spells no bytes, `range` where it
+/// spells too few or too many.
+pub fn bytes(alloc: Global, word: &Word, low: usize, high: usize) -> Result<Bytes, Fault>
+    ensures value { Gives result (bytes_in low high word.now) }
+    ensures low { IfOk result (λ b. low ≤ length b) }
+    ensures high { IfOk result (λ b. length b ≤ high) }
+{
+    match read_hex(alloc, word.bytes()) {
+        Ok(bytes) => {
+            let length = bytes.as_slice().len();
+            if low <= length && length <= high {
+                Ok(bytes)
+            } else {
+                Err(Fault::Bad(Cause::Range))
+            }
+        }
+        Err(HexFault::Malformed(_)) => Err(Fault::Bad(Cause::Hex)),
+        Err(HexFault::NoMemory) => Err(Fault::NoMemory),
+    }
+}
+
+fn all_hex(text: &[u8]) -> bool
+    ensures { result ≡ list_all is_hex_digit text.now }
+{
+    text.iter().all(|byte| matches!(*byte, b'0'..=b'9' | b'a'..=b'f' | b'A'..=b'F'))
+}
+
+// Whether a text spells bytes, of any number.
+fn is_hex(text: &[u8]) -> bool
+    ensures { result ≡ is_some (hex_bytes text.now) }
+{
+    if text.is_empty() || text.len() % 2 == 1 {
+        return false;
+    }
+    all_hex(text)
+}
+
+// What is wrong with a word that spells no 1 to 256 bytes.
+fn fault_without_piece(word: &Word) -> Fault
+    ensures hex { hex_bytes word.now ≡ None → result ≡ Fault.Bad Cause.Hex }
+    ensures range { IsSome (hex_bytes word.now) → result ≡ Fault.Bad Cause.Range }
+{
+    if is_hex(word.bytes()) {
+        Fault::Bad(Cause::Range)
+    } else {
+        Fault::Bad(Cause::Hex)
+    }
+}
+
+/// Bytes of a number within bounds, of at most 256. It takes no memory.
+pub fn piece(word: &Word, low: usize, high: usize) -> Result<Piece, Fault>
+    requires { high ≤ 256 }
+    ensures value { Gives result (bytes_in low high word.now) }
+    ensures low { IfOk result (λ b. low ≤ length b) }
+    ensures high { IfOk result (λ b. length b ≤ high) }
+{
+    let Some(bytes) = read_hex_piece(word.bytes()) else {
+        return Err(fault_without_piece(word));
+    };
+    let length = bytes.as_slice().len();
+    if low <= length && length <= high {
+        Ok(bytes)
+    } else {
+        Err(Fault::Bad(Cause::Range))
+    }
+}
+
+/// 1, 2 or 4 bytes. It takes no memory.
+pub fn short_bytes(word: &Word) -> Result<Piece, Fault>
+    ensures { Gives result (bytes_of_width (hex_bytes word.now)) }
+{
+    let Some(bytes) = read_hex_piece(word.bytes()) else {
+        return Err(fault_without_piece(word));
+    };
+    if is_width(bytes.as_slice().len() as u64) {
+        Ok(bytes)
+    } else {
+        Err(Fault::Bad(Cause::Range))
+    }
+}
