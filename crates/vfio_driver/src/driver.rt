@@ -1,0 +1,202 @@
+//! The driver of one member.
+ghost use Rattle.std.specs.Prelude.{◌≡◌, ◌+◌, ◌≤◌, ◌||◌, ℕ, Some, true, false, max, length, IsSomeAnd};
+ghost use Rattle.admin_wire.specs.Writing.{legacy_bytes, result_length};
+ghost use Rattle.group_calls.specs.Asks.{AnswersAsk};
+ghost use Rattle.io_bar.specs.Route.{count_of, is_port_width, route_of};
+ghost use Rattle.vfio_driver.specs.Access.{next_ask, turned, is_open, opened, is_started, is_read, FitsCommand};
+
+use crate::access::{Answer, Known, Open, Started, Turned};
+use crate::turn::{posting, ringing, taking};
+use admin_wire::{LegacyCmd, writable_for, write_legacy};
+use board_text::Piece;
+use group_calls::{Ask, Kind, MemberCall, RingCall, Tag, Told};
+use io_bar::{Access, Bar, Route};
+
+/// The driver of one guest's member, which has the guest's number: VIRTIO 1.3, 2.12 (device groups). Of this project.
+#[derive(Debug, Drop)]
+pub struct Driver {
+    guest: u32,
+    bar: Bar,
+    io: bool,
+    msix: bool,
+    known: Known,
+    stage: Open,
+}
+
+// Whether the command reads.
+fn reads(command: &LegacyCmd) -> bool
+    ensures { result ≡ is_read command.now }
+{
+    matches!(
+        command,
+        LegacyCmd::CommonRead { .. } | LegacyCmd::DevRead { .. }
+    )
+}
+
+// The command is to be posted for the guest.
+fn command_opened(guest: u32, queue: u32, command: &LegacyCmd) -> Open
+    requires { FitsCommand command.now }
+    ensures { result ≡ Open.Posting queue (legacy_bytes guest command.now) (8 + result_length command.now) (is_read command.now) }
+{
+    Open::Posting {
+        queue,
+        bytes: write_legacy(u64::from(guest), command),
+        writable: writable_for(command),
+        reads: reads(command),
+    }
+}
+
+impl Driver {
+    /// The driver of the guest's member of this kind, which knows this floor. I/O is enabled, and MSI-X disabled.
+    pub fn new(guest: u32, kind: Kind, floor: u64) -> Driver
+        ensures guest { result.guest ≡ guest }
+        ensures bar { result.bar ≡ kind }
+        ensures io { result.io ≡ true }
+        ensures msix { result.msix ≡ false }
+        ensures known { result.known ≡ record { floor = floor; gone = false } }
+        ensures stage { result.stage ≡ Open.Nothing }
+    {
+        Driver {
+            guest,
+            bar: Bar::new(kind),
+            io: true,
+            msix: false,
+            known: Known { floor, gone: false },
+            stage: Open::Nothing,
+        }
+    }
+
+    /// Begins an access of 1, 2 or 4 bytes, whose command goes to this queue. Local comes exactly where the access stays
+    /// with the host, or the member is known to be gone.
+    pub fn start(&mut self, access: Access, queue: u32) -> Started
+        requires unopened { is_open self.old.stage ≡ false }
+        requires width { is_port_width (count_of access) ≡ true }
+        ensures guest { self.new.guest ≡ self.old.guest }
+        ensures bar { self.new.bar ≡ self.old.bar }
+        ensures io { self.new.io ≡ self.old.io }
+        ensures msix { self.new.msix ≡ self.old.msix }
+        ensures known { self.new.known ≡ self.old.known }
+        ensures stage { self.new.stage ≡ opened self.old.guest self.old.known (route_of self.old.bar self.old.msix self.old.io access) queue }
+        ensures started { result ≡ is_started self.old.known (route_of self.old.bar self.old.msix self.old.io access) }
+    {
+        if self.known.gone {
+            self.stage = Open::Nothing;
+            return Started::Local;
+        }
+        match self.bar.route(self.msix, self.io, &access) {
+            Route::Local => {
+                self.stage = Open::Nothing;
+                Started::Local
+            }
+            Route::Doorbell { queue } => {
+                self.stage = Open::Ringing { queue };
+                Started::Asks
+            }
+            Route::Command(command) => {
+                self.stage = command_opened(self.guest, queue, &command);
+                Started::Asks
+            }
+        }
+    }
+
+    /// The next ask of the open access.
+    pub fn next(&self) -> Ask
+        requires { is_open self.now.stage ≡ true }
+        ensures { Some result ≡ next_ask self.now.guest self.now.known self.now.stage }
+    {
+        match &self.stage {
+            Open::Nothing => unreachable!(),
+            Open::Ringing { queue } => Ask::Member {
+                id: self.guest,
+                floor: self.known.floor,
+                call: MemberCall::Notify { queue: *queue },
+            },
+            Open::Posting {
+                queue,
+                bytes,
+                writable,
+                reads: _,
+            } => Ask::Queue {
+                index: *queue,
+                call: RingCall::Post {
+                    bytes: bytes.copy(),
+                    writable: *writable,
+                    tag: Tag {
+                        guest: self.guest,
+                        floor: self.known.floor,
+                    },
+                },
+            },
+            Open::Taking {
+                queue,
+                seq,
+                reads: _,
+            } => Ask::Queue {
+                index: *queue,
+                call: RingCall::Take { seq: *seq },
+            },
+        }
+    }
+
+    /// Goes on after the answer to the ask of `next`. The access is answered, or asks more.
+    pub fn feed(&mut self, told: Told) -> Option<Answer>
+        requires { IsSomeAnd (next_ask self.old.guest self.old.known self.old.stage) (λ ask. AnswersAsk ask told) }
+        ensures guest { self.new.guest ≡ self.old.guest }
+        ensures bar { self.new.bar ≡ self.old.bar }
+        ensures io { self.new.io ≡ self.old.io }
+        ensures msix { self.new.msix ≡ self.old.msix }
+        ensures stage { self.new.stage ≡ (turned self.old.known self.old.stage told).stage }
+        ensures known { self.new.known ≡ (turned self.old.known self.old.stage told).known }
+        ensures answer { result ≡ (turned self.old.known self.old.stage told).answer }
+    {
+        let turned = match &self.stage {
+            Open::Ringing { queue: _ } => ringing(self.known, &told),
+            Open::Posting {
+                queue,
+                bytes: _,
+                writable: _,
+                reads,
+            } => posting(self.known, *queue, *reads, &told),
+            Open::Taking { queue, seq, reads } => taking(self.known, *queue, *seq, *reads, &told),
+            Open::Nothing => Turned {
+                stage: Open::Nothing,
+                known: self.known,
+                answer: None,
+            },
+        };
+        self.stage = turned.stage;
+        self.known = turned.known;
+        turned.answer
+    }
+
+    /// I/O is enabled or disabled for later accesses.
+    pub fn set_io(&mut self, on: bool)
+        ensures { self.new ≡ record self.old { io = on } }
+    {
+        self.io = on;
+    }
+
+    /// MSI-X is enabled or disabled for later accesses.
+    pub fn set_msix(&mut self, on: bool)
+        ensures { self.new ≡ record self.old { msix = on } }
+    {
+        self.msix = on;
+    }
+
+    /// The greatest floor of the member that is known.
+    pub fn floor(&self) -> u64
+        ensures { result ≡ self.now.known.floor }
+    {
+        self.known.floor
+    }
+
+    /// Learns a floor of the member, and whether the member is gone.
+    pub fn learn(&mut self, floor: u64, gone: bool)
+        ensures { self.new ≡ record self.old { known = record { floor = max self.old.known.floor floor; gone = self.old.known.gone || gone } } }
+    {
+        self.known = Known {
+            floor: self.known.floor.max(floor),
+            gone: self.known.gone || gone,
+        };
+    }
+}
