@@ -56,10 +56,11 @@ impl Disk {
         &bytes[start..start + count as usize]
     }
 
-    /// Puts bytes from a sector on. Every other byte stays.
+    /// Puts bytes from a sector on. Every other byte stays, and the length does.
     pub(crate) fn write(&mut self, sector: u64, bytes: &[u8])
         requires { SECTOR_SIZE * sector + length bytes.now ≤ length self.old }
-        ensures { self.new ≡ overwrite (SECTOR_SIZE * sector) bytes.now self.old }
+        ensures written { self.new ≡ overwrite (SECTOR_SIZE * sector) bytes.now self.old }
+        ensures length { length self.new ≡ length self.old }
     {
         let limit = self.bytes.len();
         prove!(limit <= 2_097_152);

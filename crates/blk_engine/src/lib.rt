@@ -12,4 +12,4 @@ mod request;
 mod tests;
 
 pub use disk::{Disk, SECTOR_LIMIT, SECTOR_SIZE};
-pub use request::{BlkAnswer, serve};
+pub use request::{BlkAnswer, answer, serve, store};

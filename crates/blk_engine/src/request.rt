@@ -130,9 +130,10 @@ fn reply_to(
 // Puts data on the disk, where the request asks for it and is fine.
 fn put_sectors(disk: &mut Disk, kind: u32, sector: u64, status: u8, content: &[u8])
     requires { kind ≡ 1 → status ≡ 0 → 512 * sector + length content.now ≤ length disk.old }
-    ensures { disk.new ≡ (if (kind == 1) && (status == 0)
+    ensures written { disk.new ≡ (if (kind == 1) && (status == 0)
         then overwrite (512 * sector) content.now disk.old
         else disk.old) }
+    ensures length { length disk.new ≡ length disk.old }
 {
     if kind == OUT && status == OK {
         disk.write(sector, content);
@@ -155,10 +156,63 @@ fn sector_of(request: &[u8]) -> u64
     LittleEndian::read_u64(&request[8..])
 }
 
-/// Serves a request of a member's driver (VIRTIO 1.3, 5.2.6), given the bytes to read and how many may be written. The
-/// member's number is at most 999; `writable` is below 2^32. `Malformed` exactly where the request has fewer than 16 bytes
-/// or nothing is writable; else the reply has exactly `writable` bytes, the status last and zeros where nothing else is
-/// said. Only an OUT with the status OK changes the disk. `NoMemory` where the reply can't be had.
+/// What a request of a member's driver is answered (VIRTIO 1.3, 5.2.6), given the bytes to read and how many may be written.
+/// Nothing changes. The member's number is at most 999; `writable` is below 2^32. `Malformed` exactly where the request has
+/// fewer than 16 bytes or nothing is writable; else the reply has exactly `writable` bytes, the status last and zeros where
+/// nothing else is said. `NoMemory` where the reply can't be had.
+pub fn answer(
+    alloc: Global,
+    disk: &Disk,
+    member: u32,
+    read_only: bool,
+    request: &Bytes,
+    writable: u64,
+) -> Result<BlkAnswer, NoMemory>
+    requires member { member ≤ 999 }
+    requires writable { writable < 2 ^ 32 }
+    ensures answer { IfOk result (λ answer. answer ≡ answered member read_only disk.now request.now writable) }
+    ensures size { IfOk result (HasLength writable) }
+{
+    let request = request.as_slice();
+    if request.len() < HEADER_SIZE || writable == 0 {
+        return Ok(BlkAnswer::Malformed);
+    }
+    let kind = kind_of(request);
+    let sector = sector_of(request);
+    let room = writable - 1;
+    let given = request.len() as u64 - HEADER_SIZE as u64;
+    let status = status_of(disk.capacity(), read_only, kind, sector, given, room);
+    let reply = reply_to(alloc, disk, member, kind, sector, room, status)?;
+    Ok(BlkAnswer::Reply(reply))
+}
+
+/// Puts on the disk what a request writes (VIRTIO 1.3, 5.2.6), given the same as for its answer. Only an OUT with the status OK
+/// changes the disk, and nothing its length. It takes no memory.
+pub fn store(disk: &mut Disk, read_only: bool, request: &Bytes, writable: u64)
+    ensures disk { disk.new ≡ disk_after read_only disk.old request.now writable }
+    ensures length { length disk.new ≡ length disk.old }
+{
+    let request = request.as_slice();
+    if request.len() < HEADER_SIZE || writable == 0 {
+        return;
+    }
+    let kind = kind_of(request);
+    let sector = sector_of(request);
+    let content = &request[HEADER_SIZE..];
+    let given = content.len() as u64;
+    let status = status_of(
+        disk.capacity(),
+        read_only,
+        kind,
+        sector,
+        given,
+        writable - 1,
+    );
+    put_sectors(disk, kind, sector, status, content);
+}
+
+/// Answers a request, as `answer` does, and puts on the disk what it writes, as `store` does. `NoMemory` where the reply can't
+/// be had; then the disk is as it was.
 pub fn serve(
     alloc: Global,
     disk: &mut Disk,
@@ -174,17 +228,7 @@ pub fn serve(
     ensures disk { OnOk result (disk.new ≡ disk_after read_only disk.old request.now writable) }
     ensures err { OnErr result (disk.new ≡ disk.old) }
 {
-    let request = request.as_slice();
-    if request.len() < HEADER_SIZE || writable == 0 {
-        return Ok(BlkAnswer::Malformed);
-    }
-    let kind = kind_of(request);
-    let sector = sector_of(request);
-    let room = writable - 1;
-    let content = &request[HEADER_SIZE..];
-    let given = content.len() as u64;
-    let status = status_of(disk.capacity(), read_only, kind, sector, given, room);
-    let reply = reply_to(alloc, disk, member, kind, sector, room, status)?;
-    put_sectors(disk, kind, sector, status, content);
-    Ok(BlkAnswer::Reply(reply))
+    let answer = answer(alloc, disk, member, read_only, request, writable)?;
+    store(disk, read_only, request, writable);
+    Ok(answer)
 }

@@ -1,5 +1,5 @@
+pub mod Limits
 pub mod SoFar
 pub mod Rows
 pub mod Script
 pub mod Bounds
-pub mod Admin

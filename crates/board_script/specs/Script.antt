@@ -1,12 +1,8 @@
--- Which texts are scripts, and which scripts they are.
-use Rattle.std.specs.Prelude.{◌≡◌, ℕ, ◌+◌, ◌==◌, ◌||◌, nat_le, nat_lt, is_none, is_some, Bool, true, if◌then◌else◌, List, [], ◌∷◌, ◌++◌, length, slice_index, Option, Some, None, Result, Ok, Err}
+-- Which texts are scripts, and which scripts they are. Of this project.
+use Rattle.std.specs.Prelude.{ℕ, ◌+◌, ◌==◌, ◌||◌, nat_le, nat_lt, is_none, is_some, Bool, true, if◌then◌else◌, List, [], ◌∷◌, ◌++◌, length, Option, Some, None, Result, Ok, Err}
 use Rattle.board_text.specs.Line.{lines_of}
 use Rattle.script_words.specs.declared.cause.Cause.{Cause}
 use Rattle.script_words.specs.declared.cause.Cause.TheVariants as cause
-use Rattle.board_script.specs.declared.fault.ScriptFault.{ScriptFault}
-use Rattle.board_script.specs.declared.fault.ScriptFault.TheVariants as fault
-use Rattle.script_words.specs.declared.cause.Fault.{Fault}
-use Rattle.script_words.specs.declared.cause.Fault.TheVariants as of_line
 use Rattle.board_script.specs.declared.script.Board.{Board}
 use Rattle.board_script.specs.declared.script.Setup.{Setup}
 use Rattle.board_script.specs.declared.script.Turns.{Turns}
@@ -14,13 +10,14 @@ use Rattle.board_script.specs.declared.script.ActorLine.{ActorLine}
 use Rattle.board_script.specs.declared.rows.Deed.{Deed}
 use Rattle.board_script.specs.declared.draft.Use.{Use}
 use Rattle.board_script.specs.declared.draft.Use.TheVariants as use_of
-use Rattle.board_script.specs.declared.draft.TheConstants.{TURNS_LIMIT, ALONE_LIMIT}
 use Rattle.script_words.specs.declared.shape.Act.{Act}
 use Rattle.script_words.specs.declared.shape.Member.{Member}
 use Rattle.script_words.specs.declared.shape.Shape.{Shape}
 use Rattle.script_words.specs.declared.shape.Shape.TheVariants as line
 use Rattle.script_words.specs.Shape.{shape_of}
+use Rattle.script_words.specs.Texts.{At, and_then, is_ignored}
 use Rattle.script_words.specs.Values.{◌>>=◌, when}
+use Rattle.board_script.specs.Limits.{turns_limit, alone_limit}
 use Rattle.board_script.specs.SoFar.{SoFar, nothing, has_begun, is_out_of_turn, scheduled}
 use Rattle.board_script.specs.Rows.{board_row, guest_row, act_row, with_pairs}
 
@@ -34,13 +31,13 @@ breaks_setup d (line.Go pairs) = is_none d.board
 -- the lines of actors that a script may have
 abbrev pub has_room : Use → SoFar → Bool
 has_room use_of.Group d = true
-has_room use_of.Alone d = nat_lt (length d.lines) ALONE_LIMIT
+has_room use_of.Alone d = nat_lt (length d.lines) alone_limit
 
 abbrev pub with_line : Use → ℕ → SoFar → Deed → Result SoFar Cause
 with_line used number d done = when (has_room used d) cause.Limit (record d { lines = d.lines ++ record { number = number; who = done.who; what = done.what } ∷ [] })
 
 abbrev pub within_limit : SoFar → Result SoFar Cause
-within_limit d = when (nat_le (scheduled d) TURNS_LIMIT) cause.Limit d
+within_limit d = when (nat_le (scheduled d) turns_limit) cause.Limit d
 
 abbrev pub with_board : SoFar → List ℕ → List ℕ → List ℕ → Result SoFar Cause
 with_board d queues size workers = do
@@ -74,22 +71,9 @@ abbrev pub with_form : Use → ℕ → SoFar → Option Shape → Result SoFar C
 with_form used number d None = Err cause.Word
 with_form used number d (Some shape) = if breaks_setup d shape then Err cause.Setup else with_shape used number d shape
 
--- empty lines and lines that begin with `#`
-abbrev pub is_ignored : List ℕ → Bool
-is_ignored text = length text == 0 || slice_index text 0 == 35
-
 -- what the lines say with one line more
 abbrev pub with_text : Use → ℕ → SoFar → List ℕ → Result SoFar Cause
 with_text used number d text = if is_ignored text then Ok d else with_form used number d (shape_of text)
-
--- the number of a line and what is wrong with it
-pub record At : Type 0 where
-  pub line : ℕ
-  pub cause : Cause
-
-abbrev pub and_then : {A : Type 0} → ℕ → Result A Cause → (A → Result A At) → Result A At
-and_then number (Ok x) others = others x
-and_then number (Err found) others = Err (record { line = number; cause = found })
 
 -- What the lines say, which are numbered from there on. The first line with a fault counts.
 abbrev pub with_lines : Use → ℕ → SoFar → List (List ℕ) → Result SoFar At
@@ -123,14 +107,3 @@ at_end used (Err found) = Err found
 -- the script of a text, or its first fault
 abbrev pub script_of : Use → List ℕ → Result Whole At
 script_of used text = at_end used (with_lines used 1 nothing (lines_of text))
-
--- What reading a text answers, unless memory runs out.
-abbrev pub Reads : {A : Type 0} → Result A ScriptFault → Result A At → Type 0
-Reads (Ok found) read = read ≡ Ok found
-Reads (Err (fault.Bad number found)) read = read ≡ Err (record { line = number; cause = found })
-Reads (Err fault.NoMemory) read = Unit {0}
-
--- why a line with this number was not read
-abbrev pub fault_at : ℕ → Fault → ScriptFault
-fault_at number (of_line.Bad found) = fault.Bad number found
-fault_at number of_line.NoMemory = fault.NoMemory

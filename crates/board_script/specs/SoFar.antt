@@ -1,4 +1,4 @@
--- What the lines so far say.
+-- What the lines so far say. Of this project.
 use Rattle.std.specs.Prelude.{ℕ, ◌+◌, ◌-◌, ◌*◌, ◌==◌, ◌||◌, nat_le, not, Bool, true, false, List, [], length, Option, Some, None, Result}
 use Rattle.std.specs.List.{slice_get, sum_by}
 use Rattle.board_text.specs.Number.{number_of}
@@ -10,6 +10,7 @@ use Rattle.legacy_regs.specs.declared.device.Kind.{Kind}
 use Rattle.legacy_regs.specs.declared.device.Kind.TheVariants as kind
 use Rattle.script_words.specs.declared.cause.Cause.{Cause}
 use Rattle.script_words.specs.Values.{among}
+use Rattle.board_script.specs.Limits.{page_size}
 
 pub record SoFar : Type 0 where
   pub board : Option Board
@@ -31,7 +32,7 @@ workers_at (Some board) = board.workers
 -- the bytes of a guest's memory
 abbrev pub bytes_at : Option Setup → ℕ
 bytes_at None = 0
-bytes_at (Some setup) = 4096 * setup.pages
+bytes_at (Some setup) = page_size * setup.pages
 
 abbrev pub memory_of : List Setup → ℕ → ℕ
 memory_of guests n = bytes_at (slice_get guests (n - 1))

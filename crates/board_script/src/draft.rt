@@ -3,8 +3,10 @@ ghost use Rattle.std.specs.Prelude.{◌≡◌, ◌≤◌, ◌+◌, ◌*◌, ◌+
 ghost use Rattle.std.specs.List.{sum_by};
 ghost use Rattle.board_script.specs.SoFar.{SoFar, nothing, queues_at, workers_at, memory_of, is_net as is_net_of, has_begun as has_begun_of, is_out_of_turn as is_out_of_turn_of, scheduled};
 ghost use Rattle.board_script.specs.Bounds.{IsBoard, IsSetup, MayAsk, IsTurns, IsScript};
+ghost use Rattle.board_script.specs.Limits.{queue_limit, worker_limit, guest_limit, page_size, turns_limit, alone_limit};
 ghost use Rattle.board_script.specs.Script.{whole_of};
 
+use crate::limits::{ALONE_LIMIT, PAGE_SIZE, TURNS_LIMIT};
 use crate::script::{ActorLine, Board, Script, Setup, Turns};
 use legacy_regs::Kind;
 use script_words::{Word, number_at};
@@ -20,12 +22,6 @@ pub enum Use {
     Alone,
 }
 
-/// The largest sum of scheduled turns, of this project.
-pub const TURNS_LIMIT: u64 = 1_000_000;
-
-/// The most lines of actors where one guest is alone, of this project.
-pub const ALONE_LIMIT: usize = 4_096;
-
 // What the lines so far say.
 #[derive(Debug, Drop)]
 pub struct Draft {
@@ -40,21 +36,22 @@ impl Model for Draft {
     ghost use Rattle.std.specs.Prelude.{ℕ, ◌≡◌, ◌≤◌, ◌-◌, ◌^◌, min, length};
     ghost use Rattle.std.specs.List.{sum_by};
     ghost use Rattle.board_script.specs.SoFar.{SoFar, queues_at, workers_at};
+    ghost use Rattle.board_script.specs.Limits.{queue_limit, worker_limit, guest_limit};
     ghost use Rattle.board_script.specs.Bounds.{IsSoFar};
 
     ghost Value = { SoFar };
 
     ghost view = { λ d. record { board = d.board; guests = d.guests.items; lines = d.lines.items; turns = d.turns.items } };
 
-    ghost invariant = { λ d. (queues_at d.board ≤ 8) × (workers_at d.board ≤ 8) × (length d.guests.items ≤ 16)
+    ghost invariant = { λ d. (queues_at d.board ≤ queue_limit) × (workers_at d.board ≤ worker_limit) × (length d.guests.items ≤ guest_limit)
         × IsSoFar (record { board = d.board; guests = d.guests.items; lines = d.lines.items; turns = d.turns.items })
         × (d.scheduled ≡ min (sum_by (λ t. t.count) d.turns.items) (2 ^ 64 - 1)) };
 }
 
 fn memory_bytes(pages: u32) -> u64
-    ensures { result ≡ 4096 * pages }
+    ensures { result ≡ page_size * pages }
 {
-    4096 * u64::from(pages)
+    PAGE_SIZE * u64::from(pages)
 }
 
 impl Draft {
@@ -78,7 +75,7 @@ impl Draft {
 
     pub fn queues(&self) -> u32
         ensures value { result ≡ queues_at self.now.board }
-        ensures bound { result ≤ 8 }
+        ensures bound { result ≤ queue_limit }
     {
         match &self.board {
             Some(board) => board.queues,
@@ -88,7 +85,7 @@ impl Draft {
 
     pub fn workers(&self) -> u32
         ensures value { result ≡ workers_at self.now.board }
-        ensures bound { result ≤ 8 }
+        ensures bound { result ≤ worker_limit }
     {
         match &self.board {
             Some(board) => board.workers,
@@ -98,7 +95,7 @@ impl Draft {
 
     pub fn guests(&self) -> usize
         ensures value { result ≡ length self.now.guests }
-        ensures bound { result ≤ 16 }
+        ensures bound { result ≤ guest_limit }
     {
         self.guests.len()
     }
@@ -144,7 +141,7 @@ impl Draft {
 
     /// Whether one guest alone may have one line more.
     pub fn has_room(&self) -> bool
-        ensures { result ≡ nat_lt (length self.now.lines) ALONE_LIMIT }
+        ensures { result ≡ nat_lt (length self.now.lines) alone_limit }
     {
         self.lines.len() < ALONE_LIMIT
     }
@@ -158,7 +155,7 @@ impl Draft {
     }
 
     pub fn add_guest(&mut self, setup: Setup) -> Result<(), NoMemory>
-        requires fits { length self.old.guests + 1 ≤ 16 }
+        requires fits { length self.old.guests + 1 ≤ guest_limit }
         requires first { has_begun_of self.old ≡ false }
         requires bounds { IsSetup setup }
         ensures { OnOk result (self.new ≡ record self.old { guests = self.old.guests ++ setup ∷ [] }) }
@@ -186,14 +183,14 @@ impl Draft {
 
     /// Whether no more turns are scheduled than may be.
     pub fn is_within_limit(&self) -> bool
-        ensures { result ≡ nat_le (scheduled self.now) TURNS_LIMIT }
+        ensures { result ≡ nat_le (scheduled self.now) turns_limit }
     {
         self.scheduled <= TURNS_LIMIT
     }
 
     /// The script, where there is a board.
     pub fn into_script(self) -> Option<Script>
-        requires { scheduled self ≤ TURNS_LIMIT }
+        requires { scheduled self ≤ turns_limit }
         ensures value { result ≡ whole_of self self.board }
         ensures bounds { IfSome result IsScript }
     {

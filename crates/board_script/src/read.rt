@@ -1,18 +1,21 @@
 //! Reading a script.
 ghost use Rattle.std.specs.Prelude.{◌≡◌, ◌<◌, ◌-◌, ◌^◌, ◌≤◌, length, false, is_some, OnOk, IfOk};
 ghost use Rattle.board_text.specs.Line.{lines_of};
+ghost use Rattle.script_words.specs.Texts.{Reads};
 ghost use Rattle.script_words.specs.Values.{Steps};
+ghost use Rattle.board_script.specs.Limits.{turns_limit};
 ghost use Rattle.board_script.specs.SoFar.{has_begun, is_out_of_turn, nothing, scheduled};
 ghost use Rattle.board_script.specs.Bounds.{KeepsLimit, IsScript};
 ghost use Rattle.board_script.specs.Rows.{with_pair, with_pairs};
-ghost use Rattle.board_script.specs.Script.{breaks_setup as breaks_setup_of, has_room as has_room_of, with_board, with_guest, with_act, with_go, with_shape, with_form, is_ignored as is_ignored_of, with_text, with_lines, serves as serves_of, script_of, Reads};
+ghost use Rattle.board_script.specs.Script.{breaks_setup as breaks_setup_of, has_room as has_room_of, with_board, with_guest, with_act, with_go, with_shape, with_form, with_text, with_lines, serves as serves_of, script_of};
 
-use crate::draft::{Draft, TURNS_LIMIT, Use};
-use crate::fault::{ScriptFault, at};
+use crate::draft::{Draft, Use};
 use crate::rows::{act_deed, board, guest_setup, pair};
 use crate::script::{ActorLine, Script};
 use board_text::next_line;
-use script_words::{Act, Cause, Fault, Member, Shape, Word, Words, read_shape};
+use script_words::{
+    Act, Cause, Fault, Member, ScriptFault, Shape, Word, Words, at_line, is_ignored, read_shape,
+};
 use std::alloc::Global;
 
 fn add_pair(draft: &mut Draft, actor: &Word, count: &Word) -> Result<(), Fault>
@@ -166,13 +169,6 @@ fn add_form(
     }
 }
 
-// An empty line or a comment.
-pub fn is_ignored(text: &[u8]) -> bool
-    ensures { result ≡ is_ignored_of text.now }
-{
-    text.is_empty() || text[0] == b'#'
-}
-
 fn add_text(
     alloc: Global,
     draft: &mut Draft,
@@ -201,14 +197,14 @@ fn serves(used: Use, draft: &Draft) -> bool
 fn read_lines(alloc: Global, used: Use, text: &[u8]) -> Result<Draft, ScriptFault>
     requires { length text.now < 2 ^ 32 - 1 }
     ensures value { Reads result (with_lines used 1 nothing (lines_of text.now)) }
-    ensures limit { IfOk result (λ draft. scheduled draft ≤ TURNS_LIMIT) }
+    ensures limit { IfOk result (λ draft. scheduled draft ≤ turns_limit) }
 {
     let mut draft = Draft::new(alloc);
     let mut from = 0;
     let mut number = 1;
     'lines: while let Some(line) = next_line(text, from) {
         if let Err(fault) = add_text(alloc, &mut draft, used, number, &text[line.start..line.end]) {
-            return Err(at(number, fault));
+            return Err(at_line(number, fault));
         }
         from = line.next;
         number += 1;

@@ -2,11 +2,16 @@
 ghost use Rattle.std.specs.Prelude.{◌≡◌, ℕ, ◌≤◌, ◌<◌, ◌+◌, nat_le, IfOk, length};
 ghost use Rattle.std.specs.List.{sum_by};
 ghost use Rattle.script_words.specs.Values.{Gives};
+ghost use Rattle.board_script.specs.Limits.{worker_limit, mac_length};
 ghost use Rattle.board_script.specs.SoFar.{queues_at, workers_at, guest_at, worker_at, queue_at, is_net};
 ghost use Rattle.board_script.specs.Bounds.{IsBoard, IsSetup, IsGuest, IsQueue, IsActor, IsTurns, Allows};
 ghost use Rattle.board_script.specs.Rows.{made_by, queue_named, board_row, block_row, net_row, member_row, guest_row, in_row, out_row, mem_row, peek_row, cfg_row, guest_does, poll_row, serve_row, worker_poll_row, frame_row, flr_row, disable_row, act_row, actor_at, pair_row};
 
 use crate::draft::Draft;
+use crate::limits::{
+    FRAME_LEAST, FRAME_LIMIT, GUEST_LIMIT, HOST, INDEX_LIMIT, MAC_LENGTH, OFFSET_LIMIT, PAGE_LIMIT,
+    QUEUE_LIMIT, RANGE_LIMIT, SECTOR_LIMIT, TURNS_LIMIT, WORKER_LIMIT, WORKERS_FROM,
+};
 use crate::script::{Board, Setup, Turns, What};
 use legacy_regs::Kind;
 use script_words::{
@@ -22,12 +27,6 @@ pub struct Deed {
     pub what: What,
 }
 
-/// The number of the actor `w0`, of this project. The others follow. Guest n is the actor n.
-pub const WORKERS_FROM: u32 = 17;
-
-/// The number of the actor `host`, of this project.
-pub const HOST: u32 = 25;
-
 fn guest(draft: &Draft, word: &Word) -> Result<u32, Fault>
     ensures value { Gives result (guest_at draft.now word.now) }
     ensures exists { IfOk result (IsGuest draft.now.guests) }
@@ -38,7 +37,7 @@ fn guest(draft: &Draft, word: &Word) -> Result<u32, Fault>
 fn worker(draft: &Draft, word: &Word) -> Result<u32, Fault>
     ensures value { Gives result (worker_at draft.now word.now) }
     ensures exists { IfOk result (λ n. n < workers_at draft.now.board) }
-    ensures bound { IfOk result (λ n. n ≤ 8) }
+    ensures bound { IfOk result (λ n. n ≤ worker_limit) }
 {
     among(word, 0, u64::from(draft.workers()))
 }
@@ -67,9 +66,9 @@ pub fn board(queues: &Word, size: &Word, workers: &Word) -> Result<Board, Fault>
     ensures value { Gives result (board_row queues.now size.now workers.now) }
     ensures bounds { IfOk result IsBoard }
 {
-    let queues = number(queues, 1, 8)? as u32;
+    let queues = number(queues, 1, QUEUE_LIMIT)? as u32;
     let queue_size = queue_size(size)?;
-    let workers = number(workers, 0, 8)? as u32;
+    let workers = number(workers, 0, WORKER_LIMIT)? as u32;
     Ok(Board {
         queues,
         queue_size,
@@ -81,8 +80,8 @@ fn block(pages: &Word, sectors: &Word, read_only: bool) -> Result<Setup, Fault>
     ensures value { Gives result (block_row pages.now sectors.now read_only) }
     ensures bounds { IfOk result IsSetup }
 {
-    let pages = number(pages, 1, 64)? as u32;
-    let sectors = number(sectors, 0, 4096)?;
+    let pages = number(pages, 1, PAGE_LIMIT)? as u32;
+    let sectors = number(sectors, 0, SECTOR_LIMIT)?;
     Ok(Setup {
         pages,
         kind: Kind::Block { sectors, read_only },
@@ -90,7 +89,7 @@ fn block(pages: &Word, sectors: &Word, read_only: bool) -> Result<Setup, Fault>
 }
 
 fn mac_of(bytes: &[u8]) -> [u8; 6]
-    requires { length bytes.now ≡ 6 }
+    requires { length bytes.now ≡ mac_length }
     ensures { result ≡ bytes.now }
 {
     let mut mac = [0; 6];
@@ -102,8 +101,8 @@ fn net(pages: &Word, mac: &Word) -> Result<Setup, Fault>
     ensures value { Gives result (net_row pages.now mac.now) }
     ensures bounds { IfOk result IsSetup }
 {
-    let pages = number(pages, 1, 64)? as u32;
-    let bytes = piece(mac, 6, 6)?;
+    let pages = number(pages, 1, PAGE_LIMIT)? as u32;
+    let bytes = piece(mac, MAC_LENGTH, MAC_LENGTH)?;
     Ok(Setup {
         pages,
         kind: Kind::Net {
@@ -130,7 +129,7 @@ pub fn guest_setup(guest: &Word, words: &Member) -> Result<Setup, Fault>
     ensures value { Gives result (guest_row guest.now words.now) }
     ensures bounds { IfOk result IsSetup }
 {
-    let _ = number(guest, 1, 16)?;
+    let _ = number(guest, 1, GUEST_LIMIT)?;
     member_setup(words)
 }
 
@@ -145,7 +144,7 @@ fn access_in(
     ensures allowed { IfOk result (Allows draft.now) }
 {
     let who = guest(draft, guest_word)?;
-    let offset = number(offset, 0, 255)? as u8;
+    let offset = number(offset, 0, OFFSET_LIMIT)? as u8;
     let length = width(length)?;
     let queue = queue_of_tail(draft, &tail.queue)?;
     Ok(Deed {
@@ -170,7 +169,7 @@ fn access_out(
     ensures allowed { IfOk result (Allows draft.now) }
 {
     let who = guest(draft, guest_word)?;
-    let offset = number(offset, 0, 255)? as u8;
+    let offset = number(offset, 0, OFFSET_LIMIT)? as u8;
     let bytes = short_bytes(hex)?;
     let queue = queue_of_tail(draft, &tail.queue)?;
     Ok(Deed {
@@ -206,7 +205,7 @@ fn mem(
 {
     let who = guest(draft, guest_word)?;
     let addr = large_number(addr)?;
-    let bytes = bytes(alloc, hex, 1, 512)?;
+    let bytes = bytes(alloc, hex, 1, RANGE_LIMIT)?;
     if !lies_in(addr, bytes.as_slice().len() as u64, draft.memory(who)) {
         return Err(Fault::Bad(Cause::Range));
     }
@@ -222,7 +221,7 @@ fn peek(draft: &Draft, guest_word: &Word, addr: &Word, length: &Word) -> Result<
 {
     let who = guest(draft, guest_word)?;
     let addr = large_number(addr)?;
-    let length = number(length, 1, 512)?;
+    let length = number(length, 1, RANGE_LIMIT as u64)?;
     if !lies_in(addr, length, draft.memory(who)) {
         return Err(Fault::Bad(Cause::Range));
     }
@@ -240,7 +239,7 @@ fn cfg(draft: &Draft, guest_word: &Word, offset: &Word, length: &Word) -> Result
     ensures allowed { IfOk result (Allows draft.now) }
 {
     let who = guest(draft, guest_word)?;
-    let offset = number(offset, 0, 255)? as u8;
+    let offset = number(offset, 0, OFFSET_LIMIT)? as u8;
     let length = width(length)?;
     Ok(Deed {
         who,
@@ -262,7 +261,7 @@ fn poll(draft: &Draft, guest_word: &Word, queue: &Word) -> Result<Deed, Fault>
     ensures allowed { IfOk result (Allows draft.now) }
 {
     let who = guest(draft, guest_word)?;
-    let queue = number(queue, 0, 65535)? as u16;
+    let queue = number(queue, 0, INDEX_LIMIT)? as u16;
     Ok(Deed {
         who,
         what: What::Poll { queue },
@@ -292,7 +291,7 @@ fn worker_poll(
 {
     let worker = worker(draft, worker_word)?;
     let member = guest(draft, member)?;
-    let queue = number(queue, 0, 65535)? as u16;
+    let queue = number(queue, 0, INDEX_LIMIT)? as u16;
     Ok(Deed {
         who: WORKERS_FROM + worker,
         what: What::WorkerPoll { member, queue },
@@ -304,7 +303,7 @@ fn frame(alloc: Global, draft: &Draft, member: &Word, hex: &Word) -> Result<Deed
     ensures allowed { IfOk result (Allows draft.now) }
 {
     let member = guest(draft, member)?;
-    let frame = bytes(alloc, hex, 14, 1514)?;
+    let frame = bytes(alloc, hex, FRAME_LEAST, FRAME_LIMIT)?;
     if !draft.is_net(member) {
         return Err(Fault::Bad(Cause::Kind));
     }
@@ -405,6 +404,6 @@ pub fn pair(draft: &Draft, actor_word: &Word, count: &Word) -> Result<Turns, Fau
     ensures bounds { IfOk result (IsTurns (workers_at draft.now.board) draft.now.guests) }
 {
     let who = actor(draft, &actor_word.head())?;
-    let count = number(count, 0, 1_000_000)? as u32;
+    let count = number(count, 0, TURNS_LIMIT)? as u32;
     Ok(Turns { who, count })
 }

@@ -1,6 +1,7 @@
 //! What a script says.
 ghost use Rattle.std.specs.Prelude.{◌≡◌, ◌<◌, ◌≤◌, ◌-◌, length, Some};
 ghost use Rattle.std.specs.List.{slice_get};
+ghost use Rattle.board_script.specs.Limits.{guest_limit};
 ghost use Rattle.board_script.specs.Script.{Whole};
 ghost use Rattle.board_script.specs.Bounds.{IsScript, IsSetup, MayAsk, IsTurns};
 
@@ -184,7 +185,7 @@ impl Script {
     /// How many guests there are, 0 to 16.
     pub fn guests(&self) -> u32
         ensures value { result ≡ length self.now.guests }
-        ensures bound { result ≤ 16 }
+        ensures bound { result ≤ guest_limit }
     {
         self.guests.len() as u32
     }

@@ -1,9 +1,6 @@
 pub mod Limits
 pub mod Code
 pub mod Words
-pub mod Line
 pub mod Output
-pub mod Admin
-pub mod Steps
 pub mod Reading
 pub mod Outcome

@@ -1,15 +1,16 @@
--- What each status of the command `admin` says.
+-- What each status of a command says.
 use Rattle.std.specs.Prelude.{◌≡◌, ℕ, ◌<◌, ◌≤◌, nat_lt, if◌then◌else◌, List, length, Option, Result, Ok, Err}
 use Rattle.std.specs.Io.KnownBytes.{Appends, Keeps, IsAtEnd}
 use Rattle.board_io.specs.Sink.{AppendsPrefix}
 use Rattle.group_board.specs.Limits.{text_limit}
 use Rattle.group_board.specs.declared.status.Status.{Status}
 use Rattle.group_board.specs.declared.status.Status.TheVariants.{Done, Usage, NoMemory, ReadFault, WriteFault, BadScript, TooLong}
-use Rattle.group_board.specs.Admin.{Fault, admin_of}
-use Rattle.group_board.specs.Output.{fault_line}
+use Rattle.script_words.specs.Texts.{At}
+use Rattle.group_board.specs.declared.words.Command.{Command}
+use Rattle.group_board.specs.Output.{output_of, fault_line}
 
--- the text that is put for what reading and judging gave
-abbrev pub text_put : Result (List ℕ) Fault → List ℕ
+-- the text that is put for an output or a fault
+abbrev pub text_put : Result (List ℕ) At → List ℕ
 text_put (Ok output) = output
 text_put (Err first) = fault_line first.line first.cause
 
@@ -17,27 +18,27 @@ abbrev pub IsFine : {A E : Type 0} → Result A E → Type 0
 IsFine (Ok output) = Unit {0}
 IsFine (Err first) = ⊥
 
-abbrev pub status_for : Result (List ℕ) Fault → Status
+abbrev pub status_for : Result (List ℕ) At → Status
 status_for (Ok output) = Done
 status_for (Err first) = BadScript first.line first.cause
 
 -- the status of a text where source and sink don't fail and there is memory
-abbrev pub status_of : List ℕ → Status
-status_of text = if nat_lt text_limit (length text) then TooLong else status_for (admin_of text)
+abbrev pub status_of : Command → List ℕ → Status
+status_of command text = if nat_lt text_limit (length text) then TooLong else status_for (output_of command text)
 
 -- Of a text that the source told, and of what the sink held and holds, where it tells.
-abbrev pub SaysOf : Status → List ℕ → Option (List ℕ) → Option (List ℕ) → Type 0
+abbrev pub SaysOf : Command → Status → List ℕ → Option (List ℕ) → Option (List ℕ) → Type 0
 -- the text is valid, and its output was put
-SaysOf Done text old new = (length text ≤ text_limit) × IsFine (admin_of text) × Appends old new (text_put (admin_of text))
+SaysOf command Done text old new = (length text ≤ text_limit) × IsFine (output_of command text) × Appends old new (text_put (output_of command text))
 -- this is its first fault, and one line was put
-SaysOf (BadScript line cause) text old new =
-    (length text ≤ text_limit) × (admin_of text ≡ Err (record { line = line; cause = cause })) × Appends old new (fault_line line cause)
+SaysOf command (BadScript line cause) text old new =
+    (length text ≤ text_limit) × (output_of command text ≡ Err (record { line = line; cause = cause })) × Appends old new (fault_line line cause)
 -- a part was put
-SaysOf WriteFault text old new = (length text ≤ text_limit) × AppendsPrefix old new (text_put (admin_of text))
-SaysOf TooLong text old new = text_limit < length text
-SaysOf Usage text old new = Unit {0}
-SaysOf NoMemory text old new = Unit {0}
-SaysOf ReadFault text old new = Unit {0}
+SaysOf command WriteFault text old new = (length text ≤ text_limit) × AppendsPrefix old new (text_put (output_of command text))
+SaysOf command TooLong text old new = text_limit < length text
+SaysOf command Usage text old new = Unit {0}
+SaysOf command NoMemory text old new = Unit {0}
+SaysOf command ReadFault text old new = Unit {0}
 
 -- Nothing was put with these.
 abbrev pub PutsNothing : Status → Option (List ℕ) → Option (List ℕ) → Type 0

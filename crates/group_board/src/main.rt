@@ -1,8 +1,11 @@
-//! Administration commands of a device group, from the bytes that come in to the bytes that go out.
+//! The program: administration commands of a device group, and scripts of a guest, from the bytes that come in to the
+//! bytes that go out.
+//!
+//! It stands on `admin_run` and `alone_run` for what each command does, and on `board_io` for the outside. Its main clauses
+//! are those of `board_once`: what is put out for an input, and when each status comes.
 #![tactic(auto)]
 
-mod admin;
-mod line;
+mod commands;
 mod output;
 mod reading;
 mod status;
@@ -13,7 +16,8 @@ mod words;
 mod writing;
 
 use board_io::{OpenGate, StdSink, StdSource};
-pub use status::{Cause, Status, code};
+pub use script_words::Cause;
+pub use status::{Status, code};
 use std::io;
 use std::process::ExitCode;
 pub use top::{board, board_once};

@@ -1,8 +1,9 @@
 ghost use Rattle.std.specs.Prelude.{None};
 
-use crate::status::{Cause, Status};
+use crate::status::Status;
 use crate::top::{TEXT_LIMIT, board_once};
 use board_io::{MemSink, MemSource, Sink, Source, Taken};
+use script_words::Cause;
 use std::alloc::{AllocError, Global};
 use std::test::Fail;
 

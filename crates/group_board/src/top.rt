@@ -1,17 +1,18 @@
 //! The top call, which does all that the program does.
-ghost use Rattle.std.specs.Prelude.{◌≡◌, ◌≤◌, ◌⊎◌, ◌↔◌, max, IfSome};
+ghost use Rattle.std.specs.Prelude.{◌≡◌, ◌≤◌, ◌⊎◌, ◌↔◌, max, IfSome, None};
 ghost use Rattle.board_io.specs.Faults.{Rose};
 ghost use Rattle.group_board.specs.Limits.{transfer_limit};
-ghost use Rattle.group_board.specs.Words.{IsAdmin};
+ghost use Rattle.group_board.specs.Words.{command_named as named};
 ghost use Rattle.group_board.specs.Outcome.{SaysOf, PutsNothing, ReadsToEnd, status_of};
 
-use crate::admin::{ScriptFault, admin};
+use crate::commands::perform;
 use crate::output::fault_text;
 use crate::reading::{ReadFailure, read_text};
 use crate::status::Status;
-use crate::words::is_admin;
+use crate::words::command_named;
 use crate::writing::put_all;
 use board_io::{Gate, PutAnswer, Sink, Source};
+use script_words::ScriptFault;
 use std::alloc::Global;
 use std::sync::Wait;
 use std::thread::Threads;
@@ -29,29 +30,29 @@ pub fn board_once<R: Source, W: Sink>(
     source: &mut R,
     sink: &mut W,
 ) -> Status
-    ensures usage { (result ≡ Status.Usage) ↔ (IsAdmin words.now → ⊥) }
+    ensures usage { (result ≡ Status.Usage) ↔ (named words.now ≡ None) }
     ensures untouched { result ≡ Status.Usage → (source.new ≡ source.old) × (sink.new ≡ sink.old) }
-    ensures text { IfSome (R.left source.old) (λ text. SaysOf result text (W.held sink.old) (W.held sink.new)) }
+    ensures text { IfSome (R.left source.old) (λ text. IfSome (named words.now) (λ command. SaysOf command result text (W.held sink.old) (W.held sink.new))) }
     ensures nothing { PutsNothing result (W.held sink.old) (W.held sink.new) }
     ensures to_end { IfSome (R.left source.old) (λ text. ReadsToEnd result (R.left source.new)) }
     ensures read_fault { result ≡ Status.ReadFault → Rose (R.faults source.old) (R.faults source.new) }
     ensures write_fault { result ≡ Status.WriteFault → Rose (W.faults sink.old) (W.faults sink.new) }
     ensures pieces_read { R.widest source.new ≤ max (R.widest source.old) transfer_limit }
     ensures pieces_put { W.widest sink.new ≤ max (W.widest sink.old) transfer_limit }
-    ensures complete { IfSome (R.left source.old) (λ text. IsAdmin words.now
-        → (Rose (R.faults source.old) (R.faults source.new) → ⊥) → (Rose (W.faults sink.old) (W.faults sink.new) → ⊥)
-        → (result ≡ status_of text) ⊎ (result ≡ Status.NoMemory)) }
+    ensures complete { IfSome (R.left source.old) (λ text. IfSome (named words.now) (λ command.
+        (Rose (R.faults source.old) (R.faults source.new) → ⊥) → (Rose (W.faults sink.old) (W.faults sink.new) → ⊥)
+        → (result ≡ status_of command text) ⊎ (result ≡ Status.NoMemory))) }
 {
-    if !is_admin(words) {
+    let Some(command) = command_named(words) else {
         return Status::Usage;
-    }
+    };
     let text = match read_text(alloc, source) {
         Ok(text) => text,
         Err(ReadFailure::Fault) => return Status::ReadFault,
         Err(ReadFailure::TooLong) => return Status::TooLong,
         Err(ReadFailure::NoMemory) => return Status::NoMemory,
     };
-    match admin(alloc, text.as_slice()) {
+    match perform(alloc, command, text.as_slice()) {
         Ok(output) => match put_all(sink, output.as_slice()) {
             PutAnswer::Put => Status::Done,
             PutAnswer::Failed => Status::WriteFault,
@@ -77,18 +78,18 @@ pub fn board<Rt: Wait + Threads + Sync, R: Source, W: Sink, G: Gate + Sync>(
     sink: &mut W,
     _gate: &G,
 ) -> Status
-    ensures usage { (result ≡ Status.Usage) ↔ (IsAdmin words.now → ⊥) }
+    ensures usage { (result ≡ Status.Usage) ↔ (named words.now ≡ None) }
     ensures untouched { result ≡ Status.Usage → (source.new ≡ source.old) × (sink.new ≡ sink.old) }
-    ensures text { IfSome (R.left source.old) (λ text. SaysOf result text (W.held sink.old) (W.held sink.new)) }
+    ensures text { IfSome (R.left source.old) (λ text. IfSome (named words.now) (λ command. SaysOf command result text (W.held sink.old) (W.held sink.new))) }
     ensures nothing { PutsNothing result (W.held sink.old) (W.held sink.new) }
     ensures to_end { IfSome (R.left source.old) (λ text. ReadsToEnd result (R.left source.new)) }
     ensures read_fault { result ≡ Status.ReadFault → Rose (R.faults source.old) (R.faults source.new) }
     ensures write_fault { result ≡ Status.WriteFault → Rose (W.faults sink.old) (W.faults sink.new) }
     ensures pieces_read { R.widest source.new ≤ max (R.widest source.old) transfer_limit }
     ensures pieces_put { W.widest sink.new ≤ max (W.widest sink.old) transfer_limit }
-    ensures complete { IfSome (R.left source.old) (λ text. IsAdmin words.now
-        → (Rose (R.faults source.old) (R.faults source.new) → ⊥) → (Rose (W.faults sink.old) (W.faults sink.new) → ⊥)
-        → (result ≡ status_of text) ⊎ (result ≡ Status.NoMemory)) }
+    ensures complete { IfSome (R.left source.old) (λ text. IfSome (named words.now) (λ command.
+        (Rose (R.faults source.old) (R.faults source.new) → ⊥) → (Rose (W.faults sink.old) (W.faults sink.new) → ⊥)
+        → (result ≡ status_of command text) ⊎ (result ≡ Status.NoMemory))) }
 {
     board_once(alloc, words, source, sink)
 }

@@ -89,6 +89,11 @@ abbrev pub write_structure : Kind → Space → ℕ → List ℕ → Registers �
 write_structure kind Common offset bytes r = write_common kind offset bytes r
 write_structure kind Device offset bytes r = write_device offset bytes r
 
+-- the queue that a write notifies, by its number in the 2 bytes of queue notify, whether it exists or not: 4.1.5.2
+abbrev pub notified_queue : ℕ → List ℕ → Option ℕ
+notified_queue offset bytes =
+    if (offset == queue_notify_field.offset) && (length bytes == queue_notify_field.size) then Some (le16 0 bytes) else None
+
 -- what a write of the common structure does beyond the registers: it notifies an existing queue (4.1.5.2), is a reset (2.1), or writes the address of an existing queue (4.1.5.1.3.1)
 abbrev pub common_effect : Kind → Registers → ℕ → List ℕ → Effect
 common_effect kind r offset bytes =

@@ -17,12 +17,14 @@ mod regs;
 mod state;
 #[cfg(test)]
 mod tests;
+mod writes;
 
 pub use accesses::{Effect, Field, Space};
 pub use device::Kind;
 pub use features::Features;
 pub use interrupts::Irq;
 pub use regs::Regs;
+pub use writes::{is_address_write, is_reset_write, notified_queue};
 
 /// The number of descriptors of each queue of a member: the number `member_ring_size` of the definitions (of this project).
 pub const MEMBER_RING_SIZE: u16 = 16;

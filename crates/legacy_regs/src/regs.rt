@@ -48,7 +48,7 @@ impl Regs {
     ghost use Rattle.arrayvec.specs.ArrayVec.{array_vec_len};
     ghost use Rattle.legacy_regs.specs.declared.accesses.Space.TheVariants.{Common};
     ghost use Rattle.legacy_regs.specs.Fields.{common_size, device_size, structure_size};
-    ghost use Rattle.legacy_regs.specs.Registers.{initial_registers, reset_of, flr_of, queue_count, queue_size, queue_address, queue_vector, page_number, common_structure, device_structure, structure};
+    ghost use Rattle.legacy_regs.specs.Registers.{initial_registers, reset_of, flr_of, queue_count, queue_size, queue_address, queue_vector, page_number, selected, common_structure, device_structure, structure};
     ghost use Rattle.legacy_regs.specs.Accesses.{read_answer, HasBytes, after_read, write_answer, after_write, notifies_in_part, write_effect, common_effect, write_common, write_device};
     ghost use Rattle.legacy_regs.specs.Interrupts.{queue_irq, raise_queue};
 
@@ -78,6 +78,25 @@ impl Regs {
         ensures { result ≡ page_number self.now.registers queue }
     {
         read_32(&self.queue(queue).address)
+    }
+
+    /// The number of the selected queue (VIRTIO 1.3, 4.1.5.1.3.1), which may be one that doesn't exist.
+    pub fn selected(&self) -> u16
+        ensures { result ≡ selected self.now.registers }
+    {
+        self.state.selected()
+    }
+
+    /// What a read of `length` bytes from `offset` on would answer, counted in bytes from the structure's start. Nothing
+    /// changes. Exactly where the read has no byte or isn't wholly inside one field, the answer is Field (of this project).
+    pub fn peek(&self, space: Space, offset: u8, length: u32) -> Result<Piece, Field>
+        ensures answer { result ≡ read_answer self.now space offset length }
+        ensures bytes { HasBytes length result }
+    {
+        if is_refused_read(&self.kind, self.msix, space, offset, length) {
+            return Err(Field);
+        }
+        Ok(part_of(&self.structure(space), offset, length))
     }
 
     /// Reads `length` bytes from `offset` on, counted in bytes from the structure's start. A read of ISR clears it

@@ -2,7 +2,7 @@
 ghost use Rattle.std.specs.Prelude.{◌≡◌, ◌<◌, ◌≤◌, [], ◌∷◌, ◌++◌, length, drop, IfOk, OnOk, OnErr, if◌then◌else◌, nat_lt, slice_get, option_map};
 ghost use Rattle.net_engine.specs.Frames.{backlog_limit, first_with_header};
 
-use crate::frame::with_header;
+use crate::frame::{HEADER_SIZE, with_header};
 use board_text::Bytes;
 use circular_buffer::HeapCircularBuffer;
 use std::alloc::{AllocError as NoMemory, Global};
@@ -71,6 +71,29 @@ impl Backlog {
         Arrival::Kept
     }
 
+    /// A header of ten zeros and the first frame, of which there has to be one. Nothing changes. `NoMemory` where the bytes
+    /// can't be had.
+    pub fn front_with_header(&self) -> Result<Bytes, NoMemory>
+        requires { 0 < length self.now }
+        ensures { IfOk result (λ bytes. bytes ≡ first_with_header self.now) }
+    {
+        match self.frames.front() {
+            Some(frame) => with_header(self.alloc, frame.as_slice()),
+            None => unreachable!(),
+        }
+    }
+
+    /// How many bytes the first frame has with a header, of which frames there has to be one.
+    pub fn front_length_with_header(&self) -> u64
+        requires { 0 < length self.now }
+        ensures { result ≡ length (first_with_header self.now) }
+    {
+        match self.frames.front() {
+            Some(frame) => (HEADER_SIZE + frame.as_slice().len()) as u64,
+            None => unreachable!(),
+        }
+    }
+
     /// How many bytes the first frame has, without a header. `None` exactly where no frame waits.
     pub fn front_length(&self) -> Option<usize>
         ensures { result ≡ option_map length (slice_get self.now 0) }
@@ -102,11 +125,8 @@ impl Backlog {
         ensures ok { OnOk result (self.new ≡ drop 1 self.old) }
         ensures err { OnErr result (self.new ≡ self.old) }
     {
-        let bytes = match self.frames.front() {
-            Some(frame) => with_header(self.alloc, frame.as_slice())?,
-            None => unreachable!(),
-        };
-        let _ = self.frames.pop_front();
+        let bytes = self.front_with_header()?;
+        self.drop_front();
         Ok(bytes)
     }
 }

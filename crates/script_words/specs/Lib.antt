@@ -2,3 +2,4 @@ pub mod Words
 pub mod Shape
 pub mod Values
 pub mod Causes
+pub mod Texts

@@ -1,4 +1,4 @@
--- The forms of a line, each known by its fixed words and its number of words.
+-- The forms of a line, each known by its fixed words and its number of words. Of this project.
 use Rattle.std.specs.Prelude.{ℕ, ◌==◌, ◌&&◌, Bool, true, false, if◌then◌else◌, List, [], ◌∷◌, length, codes, Option, Some, None}
 use Rattle.std.specs.Str.{bytes_eq}
 use Rattle.script_words.specs.declared.words.Head.{Head}

@@ -1,4 +1,4 @@
--- What a word stands for where it must be a number or hex.
+-- What a word stands for where it must be a number or hex. Of this project.
 use Rattle.std.specs.Prelude.{◌≡◌, ℕ, ◌==◌, ◌&&◌, ◌||◌, nat_le, nat_lt, if◌then◌else◌, Bool, List, length, Option, Some, None, Result, Ok, Err}
 use Rattle.board_text.specs.Number.{number_of}
 use Rattle.board_text.specs.Hex.{hex_bytes}

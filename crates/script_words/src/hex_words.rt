@@ -1,7 +1,7 @@
 //! What a word stands for where it must be hex.
 ghost use Rattle.std.specs.Prelude.{◌≡◌, ◌≤◌, IfOk, length, is_some, None, IsSome};
 ghost use Rattle.std.specs.List.{list_all};
-ghost use Rattle.hex.specs.Hex.{is_hex_digit};
+ghost use Rattle.hex.specs.Hex.{is_hex_digit, IsBytes};
 ghost use Rattle.board_text.specs.Hex.{hex_bytes};
 ghost use Rattle.script_words.specs.Values.{Gives, bytes_in, bytes_of_width};
 
@@ -15,6 +15,7 @@ use std::alloc::Global;
 /// spells too few or too many.
 pub fn bytes(alloc: Global, word: &Word, low: usize, high: usize) -> Result<Bytes, Fault>
     ensures value { Gives result (bytes_in low high word.now) }
+    ensures each { IfOk result IsBytes }
     ensures low { IfOk result (λ b. low ≤ length b) }
     ensures high { IfOk result (λ b. length b ≤ high) }
 {
@@ -64,6 +65,7 @@ fn fault_without_piece(word: &Word) -> Fault
 pub fn piece(word: &Word, low: usize, high: usize) -> Result<Piece, Fault>
     requires { high ≤ 256 }
     ensures value { Gives result (bytes_in low high word.now) }
+    ensures each { IfOk result IsBytes }
     ensures low { IfOk result (λ b. low ≤ length b) }
     ensures high { IfOk result (λ b. length b ≤ high) }
 {
@@ -80,7 +82,8 @@ pub fn piece(word: &Word, low: usize, high: usize) -> Result<Piece, Fault>
 
 /// 1, 2 or 4 bytes. It takes no memory.
 pub fn short_bytes(word: &Word) -> Result<Piece, Fault>
-    ensures { Gives result (bytes_of_width (hex_bytes word.now)) }
+    ensures value { Gives result (bytes_of_width (hex_bytes word.now)) }
+    ensures each { IfOk result IsBytes }
 {
     let Some(bytes) = read_hex_piece(word.bytes()) else {
         return Err(fault_without_piece(word));

@@ -1,6 +1,6 @@
-//! The words of a line and what they stand for: fixed words, numbers, bytes in hex, actors; and the form
-//! that a line of a script has by its fixed words and its number of words. Nothing here knows what other
-//! lines say.
+//! The words of a line and what they stand for: fixed words, numbers, bytes in hex, actors; the form that
+//! a line of a script has by its fixed words and its number of words; and which lines of a text count, and
+//! how its first fault is told. Nothing here knows what other lines say.
 //!
 //! It stands on `board_text` for numbers and bytes. Its main clauses: `read_shape` is `shape_of`, which has
 //! one definition a form; each reader of a word gives exactly what its definition gives, value or cause, and
@@ -11,6 +11,7 @@ mod cause;
 mod forms;
 mod hex_words;
 mod shape;
+mod texts;
 mod values;
 mod words;
 
@@ -18,5 +19,6 @@ pub use cause::{Cause, Fault};
 pub use forms::read_shape;
 pub use hex_words::{bytes, piece, short_bytes};
 pub use shape::{Act, Member, Shape, Tail};
+pub use texts::{ScriptFault, at_line, is_ignored};
 pub use values::{among, large_number, number, number_at, queue_size, width};
 pub use words::{Head, Word, Words, are_plain};

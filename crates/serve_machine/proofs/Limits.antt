@@ -41,7 +41,7 @@ use Rattle.serve_machine.specs.Service.{next_ask, after, after_pop, after_judge,
 use Rattle.serve_machine.specs.Within.{payload_limit, writable_in, result_in, IsWithinReply, IsActTold}
 
 -- both branches have it
-either : {A : Type 0} (P : A → Type 0) (b : Bool) (x y : A) → P x → P y → P (if b then x else y)
+pub either : {A : Type 0} (P : A → Type 0) (b : Bool) (x y : A) → P x → P y → P (if b then x else y)
 either P true x y here there = here
 either P false x y here there = there
 

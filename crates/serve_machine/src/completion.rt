@@ -48,7 +48,7 @@ pub(crate) fn listed(command: Fetched, bits: u64) -> Stage
 }
 
 /// The notify information of a member: one entry, and three that are empty.
-pub(crate) fn info() -> Piece
+pub fn info() -> Piece
     ensures bytes { result ≡ info }
     ensures size { length result ≡ 64 }
 {

@@ -2,14 +2,16 @@
 //! carried out by its member where the owner says so, and completed.
 //!
 //! It stands on `group_calls`, whose asks and answers it speaks, and on `admin_wire` for the bytes of completions. Its
-//! main clauses are those of `Server::next`, the ask of the stage, and of `Server::feed`, the stage after an answer.
-//! Nothing here takes memory.
+//! main clauses are those of `Server::next`, the ask of the stage, and of `Server::feed`, the stage after an answer. In
+//! `laws` stands that what the machine asks is one service by a grammar. Nothing here takes memory.
 #![tactic(auto)]
 
 mod completion;
+pub mod laws;
 mod server;
 mod stage;
 mod turn;
 
+pub use completion::info as notify_info;
 pub use server::Server;
 pub use stage::{Fetched, Stage};

@@ -3,13 +3,15 @@
 //!
 //! It stands on `group_calls`, whose asks and answers it speaks, on `io_bar` for where an access goes, and on
 //! `admin_wire` for the bytes of commands. Its main clauses are those of `next`, the ask of the stage, and of `feed`, the
-//! stage, the knowledge and the answer after an answer of a cell. Nothing here takes memory.
+//! stage, the knowledge and the answer after an answer of a cell. In `laws` stands that what the machine asks for an access
+//! is that access by a grammar. Nothing here takes memory.
 #![tactic(auto)]
 
 mod access;
 mod bring;
 mod bring_turn;
 mod driver;
+pub mod laws;
 mod turn;
 
 pub use access::{Answer, Known, Open, Started, Turned};

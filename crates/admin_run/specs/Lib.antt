@@ -1,0 +1,4 @@
+pub mod Group
+pub mod Completion
+pub mod Answers
+pub mod Kept

@@ -1,0 +1,104 @@
+//! Reading the input of `admin`.
+ghost use Rattle.std.specs.Prelude.{◌≡◌, ◌<◌, ◌≤◌, ◌-◌, ◌^◌, length, IfOk};
+ghost use Rattle.script_words.specs.Texts.{Reads};
+ghost use Rattle.script_words.specs.Values.{Gives, Steps};
+ghost use Rattle.admin_script.specs.Admin.{breaks_admin, command_bytes, admin_row, IsAdminLine, with_admin_row, with_admin_form, with_admin_text, admin_text_of};
+
+use crate::limits::{COMMAND_LIMIT, FUNCTION_LIMIT, ROOM_LIMIT};
+use crate::line::AdminLine;
+use crate::shape::{AdminShape, read_shape};
+use crate::text::AdminText;
+use board_text::{Piece, next_line};
+use script_words::{Cause, Fault, ScriptFault, Word, at_line, is_ignored, number, piece};
+use std::alloc::Global;
+
+fn breaks_setup(earlier: &AdminText, shape: &AdminShape) -> bool
+    ensures { result ≡ breaks_admin earlier.now shape.now }
+{
+    match shape {
+        AdminShape::Vfs { .. } => earlier.has_begun(),
+        AdminShape::Reset => false,
+        AdminShape::Cmd { .. } => false,
+    }
+}
+
+fn command(word: &Word) -> Result<Piece, Fault>
+    ensures value { Gives result (command_bytes word.now) }
+    ensures bound { IfOk result (λ bytes. length bytes ≤ 256) }
+{
+    if word.is(b"-") {
+        return Ok(Piece::new());
+    }
+    piece(word, 0, COMMAND_LIMIT)
+}
+
+fn row(shape: &AdminShape) -> Result<AdminLine, Fault>
+    ensures value { Gives result (admin_row shape.now) }
+    ensures bounds { IfOk result IsAdminLine }
+{
+    match shape {
+        AdminShape::Vfs { count } => {
+            let count = number(count, 0, FUNCTION_LIMIT)? as u32;
+            Ok(AdminLine::Vfs { count })
+        }
+        AdminShape::Reset => Ok(AdminLine::Reset),
+        AdminShape::Cmd { writable, bytes } => {
+            let writable = number(writable, 0, ROOM_LIMIT)? as u32;
+            let bytes = command(bytes)?;
+            Ok(AdminLine::Cmd { writable, bytes })
+        }
+    }
+}
+
+fn add_row(text: &mut AdminText, shape: &AdminShape) -> Result<(), Fault>
+    ensures { Steps result text.new (with_admin_row text.old shape.now) }
+{
+    let line = row(shape)?;
+    match text.push(line) {
+        Ok(()) => Ok(()),
+        Err(_) => Err(Fault::NoMemory),
+    }
+}
+
+fn add_form(text: &mut AdminText, shape: Option<AdminShape>) -> Result<(), Fault>
+    ensures { Steps result text.new (with_admin_form text.old shape.entry) }
+{
+    match shape {
+        None => Err(Fault::Bad(Cause::Word)),
+        Some(shape) => {
+            if breaks_setup(text, &shape) {
+                Err(Fault::Bad(Cause::Setup))
+            } else {
+                add_row(text, &shape)
+            }
+        }
+    }
+}
+
+fn add_text(text: &mut AdminText, line: &[u8]) -> Result<(), Fault>
+    ensures { Steps result text.new (with_admin_text text.old line.now) }
+{
+    if is_ignored(line) {
+        return Ok(());
+    }
+    add_form(text, read_shape(line))
+}
+
+/// The lines of a text for `admin`, or its first fault: the number of the first line with a fault, and the
+/// first cause there.
+pub fn read_admin(alloc: Global, text: &[u8]) -> Result<AdminText, ScriptFault>
+    requires { length text.now < 2 ^ 32 - 1 }
+    ensures { Reads result (admin_text_of text.now) }
+{
+    let mut admin = AdminText::new(alloc);
+    let mut from = 0;
+    let mut number = 1;
+    'lines: while let Some(line) = next_line(text, from) {
+        if let Err(fault) = add_text(&mut admin, &text[line.start..line.end]) {
+            return Err(at_line(number, fault));
+        }
+        from = line.next;
+        number += 1;
+    }
+    Ok(admin)
+}

@@ -1,0 +1,71 @@
+//! The lines of the input of `admin`.
+ghost use Rattle.std.specs.Prelude.{◌≡◌, ◌<◌, ◌++◌, ◌∷◌, [], length, OnOk, Some};
+ghost use Rattle.std.specs.List.{slice_get, list_any};
+ghost use Rattle.admin_script.specs.Admin.{begins as begins_of, IsAdminLine};
+
+use crate::line::{AdminLine, begins};
+use std::alloc::{AllocError as NoMemory, Global};
+use std::marker::Model;
+
+/// The input of `admin`: one item for each line that isn't ignored, in the order of the text.
+#[derive(Debug, Drop)]
+pub struct AdminText {
+    lines: Vec<AdminLine>,
+    // whether a `vfs` or a `reset` has come
+    begun: bool,
+}
+
+impl Model for AdminText {
+    ghost use Rattle.std.specs.Prelude.{List};
+    ghost use Rattle.admin_script.specs.declared.line.AdminLine.{AdminLine};
+    ghost use Rattle.admin_script.specs.Kept.{KeepsLines};
+
+    ghost Value = { List AdminLine };
+
+    ghost view = { λ t. t.lines.items };
+
+    ghost invariant = { λ t. KeepsLines t.begun t.lines.items };
+}
+
+impl AdminText {
+    pub(crate) fn new(alloc: Global) -> AdminText
+        ensures { result ≡ [] }
+    {
+        AdminText {
+            lines: Vec::new(alloc),
+            begun: false,
+        }
+    }
+
+    pub(crate) fn has_begun(&self) -> bool
+        ensures { result ≡ list_any begins_of self.now }
+    {
+        self.begun
+    }
+
+    pub(crate) fn push(&mut self, line: AdminLine) -> Result<(), NoMemory>
+        requires { IsAdminLine line }
+        ensures { OnOk result (self.new ≡ self.old ++ line ∷ []) }
+    {
+        let begins = begins(&line);
+        self.lines.push(line)?;
+        self.begun = self.begun || begins;
+        Ok(())
+    }
+
+    /// How many lines there are.
+    pub fn length(&self) -> usize
+        ensures { result ≡ length self.now }
+    {
+        self.lines.len()
+    }
+
+    /// A line, counted from 0.
+    pub fn line(&self, index: usize) -> &AdminLine
+        requires { index < length self.now }
+        ensures value { slice_get self.now index ≡ Some result.now }
+        ensures bounds { IsAdminLine result.now }
+    {
+        &self.lines[index]
+    }
+}

@@ -1,0 +1,132 @@
+//! Answers in words.
+ghost use Rattle.std.specs.Prelude.{◌≡◌, ◌++◌, ◌≤◌, codes, length, true, OnOk};
+ghost use Rattle.std.specs.Fmt.{decimal};
+ghost use Rattle.hex.specs.Hex.{encode_lower};
+ghost use Rattle.alone_run.specs.Lines.{halt_words, reply_words, ones, outside_words};
+ghost use Rattle.alone_run.specs.Kept.{told_words, words_for, HasWidth};
+
+use board_script::What;
+use board_text::Bytes;
+use group_calls::{Halt, MemberReply};
+use io_bar::Bar;
+use itoa::Buffer;
+use std::alloc::AllocError as NoMemory;
+
+// How many bytes are turned into hex at once.
+const PART: usize = 128;
+
+// Appends a part in hex.
+fn push_part(output: &mut Bytes, part: &[u8]) -> Result<(), NoMemory>
+    requires { length part.now ≤ 128 }
+    ensures { OnOk result (output.new ≡ output.old ++ encode_lower part.now) }
+{
+    let mut digits = [0; 2 * PART];
+    let digits = &mut digits[..2 * part.len()];
+    hex::encode_to_slice(part, digits).unwrap();
+    output.extend(digits)
+}
+
+// Appends bytes in hex, each as two digits in lower case.
+fn push_hex(output: &mut Bytes, bytes: &[u8]) -> Result<(), NoMemory>
+    ensures { OnOk result (output.new ≡ output.old ++ encode_lower bytes.now) }
+{
+    let mut from = 0;
+    'parts: while from < bytes.len() {
+        let count = PART.min(bytes.len() - from);
+        push_part(output, &bytes[from..from + count])?;
+        from += count;
+    }
+    Ok(())
+}
+
+// Appends all ones for a read of so many bytes.
+fn push_ones(output: &mut Bytes, length: u32) -> Result<(), NoMemory>
+    requires { length ≤ 4 }
+    ensures { OnOk result (output.new ≡ output.old ++ ones length) }
+{
+    push_hex(output, &[0xff; 4][..length as usize])
+}
+
+// Why a queue was halted.
+fn halt_name(halt: &Halt) -> &'static [u8]
+    ensures { result.now ≡ halt_words halt.now }
+{
+    match halt {
+        Halt::Ring => b"halted ring".as_slice(),
+        Halt::Index => b"halted index".as_slice(),
+        Halt::Chain => b"halted chain".as_slice(),
+        Halt::Request => b"halted request".as_slice(),
+    }
+}
+
+// Appends the words for a reply.
+fn push_reply(output: &mut Bytes, reply: &MemberReply) -> Result<(), NoMemory>
+    ensures { OnOk result (output.new ≡ output.old ++ reply_words reply.now) }
+{
+    match reply {
+        MemberReply::Data(bytes) => push_hex(output, bytes.as_slice()),
+        MemberReply::Gone { .. } => output.extend(b"gone"),
+        MemberReply::Irqs { mask } => push_hex(output, &[(*mask % 256) as u8]),
+        MemberReply::Served { .. } => output.extend(b"served"),
+        MemberReply::Empty => output.extend(b"empty"),
+        MemberReply::NotPending => output.extend(b"idle"),
+        MemberReply::Halted(halt) => output.extend(halt_name(halt)),
+        MemberReply::Dropped => output.extend(b"dropped"),
+        _ => output.extend(b"ok"),
+    }
+}
+
+// Appends the words for the reply to a line.
+fn push_told(output: &mut Bytes, what: &What, reply: &MemberReply) -> Result<(), NoMemory>
+    requires { HasWidth what.now }
+    ensures { OnOk result (output.new ≡ output.old ++ told_words what.now reply.now) }
+{
+    match what {
+        What::BarRead { length, .. } => match reply {
+            MemberReply::Data(bytes) => push_hex(output, bytes.as_slice()),
+            _ => push_ones(output, *length),
+        },
+        What::BarWrite { .. } => output.extend(b"ok"),
+        _ => push_reply(output, reply),
+    }
+}
+
+// Appends the words for a line that asks nothing of the device.
+fn push_outside(output: &mut Bytes, bar: &Bar, io: bool, what: &What) -> Result<(), NoMemory>
+    requires { HasWidth what.now }
+    ensures { OnOk result (output.new ≡ output.old ++ outside_words bar.now io what.now) }
+{
+    match what {
+        What::BarRead { length, .. } => push_ones(output, *length),
+        What::Cfg { offset, length } => {
+            push_hex(output, bar.config(io, *offset, *length).as_slice())
+        }
+        _ => output.extend(b"ok"),
+    }
+}
+
+/// Appends a number and a space.
+pub(crate) fn push_number(output: &mut Bytes, number: u32) -> Result<(), NoMemory>
+    ensures { OnOk result (output.new ≡ output.old ++ decimal number ++ codes " ") }
+{
+    let mut digits = Buffer::new();
+    output.extend(digits.format(number).as_bytes())?;
+    output.push(b' ')
+}
+
+/// Appends the words for a line and the reply to it, if it asked the device.
+pub(crate) fn push_words(
+    output: &mut Bytes,
+    bar: &Bar,
+    io: bool,
+    what: &What,
+    reply: &Option<MemberReply>,
+) -> Result<(), NoMemory>
+    requires { HasWidth what.now }
+    ensures { OnOk result (output.new ≡ output.old ++ words_for bar.now io what.now reply.now) }
+{
+    match reply {
+        Some(reply) => push_told(output, what, reply),
+        None => push_outside(output, bar, io, what),
+    }
+}

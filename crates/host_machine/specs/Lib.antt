@@ -1,0 +1,4 @@
+pub mod Machine
+pub mod Within
+pub mod Grammar
+pub mod Runs

@@ -1,0 +1,12 @@
+//! What the host asks, as a grammar.
+ghost use Rattle.std.specs.Prelude.{ℕ, List, ◌↔◌};
+ghost use Rattle.host_machine.specs.declared.line.HostLine.{HostLine};
+ghost use Rattle.host_machine.specs.Grammar.{Exchange, IsAnsweredLine, BeginsLine};
+ghost use Rattle.host_machine.specs.Runs.{IsWholeRun, IsOpenRun};
+
+/// What `Host` asks until nothing is left is its line by the grammar, and what it has asked before is the beginning of it.
+/// The machine asks every line that the grammar has.
+pub fn the_machine_asks_what_the_grammar_has()
+    ensures whole { (members queues : ℕ) (line : HostLine) (xs : List Exchange) → IsWholeRun members queues line xs ↔ IsAnsweredLine members queues line xs }
+    ensures begun { (members queues : ℕ) (line : HostLine) (xs : List Exchange) → IsOpenRun members queues line xs ↔ BeginsLine members queues line xs }
+{}

@@ -1,0 +1,64 @@
+-- What a run says of a queue, after one entry more.
+use Rattle.std.proofs.Common.{◌≡◌, ℕ, ◌+◌, ◌%◌, Bool, true, false, cond, List, [], ◌∷◌, refl, sym, ap, ◌∙◌, arith}
+use Rattle.std.specs.Prelude.{◌||◌}
+use Rattle.std.specs.List.{list_any}
+use Rattle.history.specs.Look.{count, after_latest}
+use Rattle.legacy_regs.specs.declared.device.Kind.{Kind}
+use Rattle.group_calls.specs.MemberEntries.{MemberEntry, is_reset, since_reset}
+use Rattle.group_calls.specs.MemberRegisters.{selected}
+use Rattle.group_calls.specs.MemberQueues.{moves, fresh, is_served, is_empty, is_halt, is_step, notifies}
+use Rattle.group_calls.proofs.RegisterSteps.{goes_on as run_goes_on, ends as run_ends}
+use Rattle.member_core.specs.declared.queues.QueueFacts.{QueueFacts}
+use Rattle.member_core.specs.Queues.{queue_facts, first_facts, goes_on, queue_then}
+
+-- what is kept of a queue, by the entries since it began afresh
+abbrev facts_of : Kind → ℕ → List MemberEntry → QueueFacts
+facts_of kind q since = record {
+  position = count (is_step is_served q) since % 65536;
+  notified = list_any (notifies kind q) (after_latest (is_step is_empty q) since);
+  halted = list_any (is_step is_halt q) since;
+}
+
+wraps : (n : ℕ) → (n + 1) % 65536 ≡ (n % 65536 + 1) % 65536
+wraps n = omega arith
+
+counted : (b : Bool) (n : ℕ) → cond b (n + 1) n % 65536 ≡ cond b ((n % 65536 + 1) % 65536) (n % 65536)
+counted true n = wraps n
+counted false n = refl
+
+noticed : (b : Bool) (passes : MemberEntry → Bool) (e : MemberEntry) (since : List MemberEntry) → list_any passes (cond b [] (e ∷ since)) ≡ cond b false (passes e || list_any passes since)
+noticed true passes e since = refl
+noticed false passes e since = refl
+
+one_more : (kind : Kind) (q : ℕ) (e : MemberEntry) (since : List MemberEntry) → facts_of kind q (e ∷ since) ≡ goes_on kind q e (facts_of kind q since)
+one_more kind q e since = λ i. record {
+  position = counted (is_step is_served q e) (count (is_step is_served q) since) i;
+  notified = noticed (is_step is_empty q e) (notifies kind q) e (after_latest (is_step is_empty q) since) i;
+  halted = list_any (is_step is_halt q) (e ∷ since);
+}
+
+fresh_ends : (q : ℕ) (e : MemberEntry) (run : List MemberEntry) → moves q e run ≡ true → fresh (e ∷ run) q ≡ []
+fresh_ends q e run moved = rw moved refl
+
+fresh_goes_on : (q : ℕ) (e : MemberEntry) (run : List MemberEntry) → moves q e run ≡ false → fresh (e ∷ run) q ≡ e ∷ fresh run q
+fresh_goes_on q e run stays = rw stays refl
+
+-- the queue's facts after any entry
+pub queue_facts-more : (kind : Kind) (q : ℕ) (e : MemberEntry) (past : List MemberEntry)
+    → queue_facts kind (since_reset (e ∷ past)) q ≡ queue_then kind q (selected (since_reset past)) e (queue_facts kind (since_reset past) q)
+queue_facts-more kind q e past = go (is_reset e) refl (moves q e (since_reset past)) refl
+  where
+    run : List MemberEntry
+    run = since_reset past
+
+    go : (r : Bool) → is_reset e ≡ r → (m : Bool) → moves q e (since_reset past) ≡ m
+        → queue_facts kind (since_reset (e ∷ past)) q ≡ queue_then kind q (selected (since_reset past)) e (queue_facts kind (since_reset past) q)
+    go true r m moved = ap (λ run. queue_facts kind run q) (run_ends e past r)
+        ∙ sym (ap (λ b. cond (b || moves q e (since_reset past)) first_facts (goes_on kind q e (queue_facts kind (since_reset past) q))) r)
+    go false r true moved = ap (λ run. queue_facts kind run q) (run_goes_on e past r)
+        ∙ ap (facts_of kind q) (fresh_ends q e (since_reset past) moved)
+        ∙ sym (λ i. cond (r i || moved i) first_facts (goes_on kind q e (queue_facts kind (since_reset past) q)))
+    go false r false moved = ap (λ run. queue_facts kind run q) (run_goes_on e past r)
+        ∙ ap (facts_of kind q) (fresh_goes_on q e (since_reset past) moved)
+        ∙ one_more kind q e (fresh (since_reset past) q)
+        ∙ sym (λ i. cond (r i || moved i) first_facts (goes_on kind q e (queue_facts kind (since_reset past) q)))

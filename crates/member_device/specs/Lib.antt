@@ -1,0 +1,4 @@
+pub mod Device
+pub mod Access
+pub mod Plan
+pub mod Kept

@@ -1,0 +1,4 @@
+use Rattle.owner_core.proofs.owner.OwnerSerial.length.Goals as goal
+
+pub returns-clause-legal : goal.returns-clause-legal
+returns-clause-legal c = rw (← c.self.view_is) c.self.invariant.legal

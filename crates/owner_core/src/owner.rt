@@ -1,0 +1,209 @@
+//! The owner.
+ghost use Rattle.std.specs.Prelude.{◌≡◌, ◌≤◌, ℕ, []};
+ghost use Rattle.history.specs.Legal.{never_quiet, never_spares};
+ghost use Rattle.group_calls.specs.Limits.{writable_limit};
+ghost use Rattle.group_calls.specs.Owner.{is_used, is_away, refusal_floor, refused, verdict_on, verdict, owner_answer, owner_may};
+
+use crate::looking::{away_found, floor_found};
+use crate::numbers::{
+    EINVAL, INVALID_FIELD, INVALID_GROUP, INVALID_MEMBER, INVALID_OPCODE, SUPPORTED_LIST,
+};
+use crate::steps::{away_after, count_after, in_use_after, strays_after, told_after};
+use admin_wire::{Body, LEGACY_NOTIFY_INFO, LIST_USE, SR_IOV, read_command};
+use board_text::{FLOOR_LIMIT, Piece};
+use group_calls::{Entry, HISTORY_LIMIT, Log, OwnerCall, OwnerReply, Placed, Serial};
+use std::alloc::{AllocError as NoMemory, Global};
+use std::marker::Model;
+
+/// The owner of a group, which is the physical function: VIRTIO 1.3, 2.12 (device groups). Contracts see the number of
+/// members that it was made for and its history, the latest entry first.
+#[derive(Drop)]
+pub struct Owner {
+    members: u32,
+    count: u32,
+    in_use: u64,
+    told: [u64; FLOOR_LIMIT],
+    away: [bool; FLOOR_LIMIT],
+    strays: bool,
+    log: Log<OwnerCall, OwnerReply>,
+}
+
+impl Model for Owner {
+    ghost use Rattle.std.specs.Prelude.{ℕ};
+    ghost use Rattle.group_calls.specs.declared.owner.OwnerCall.{OwnerCall};
+    ghost use Rattle.group_calls.specs.declared.owner.OwnerReply.{OwnerReply};
+    ghost use Rattle.history.specs.Legal.{Cell};
+
+    ghost Value = { Cell ℕ OwnerCall OwnerReply };
+
+    ghost use Rattle.owner_core.specs.Kept.{Keeps};
+
+    ghost view = { λ o. record { made = o.members; history = o.log.entries } };
+
+    ghost invariant = { λ o. Keeps o.members o.count o.in_use o.told o.away o.strays o.log.entries };
+}
+
+impl Owner {
+    /// An owner for so many members, without history. This takes no memory.
+    pub fn new(alloc: Global, members: u32) -> Owner
+        ensures made { result.made ≡ members }
+        ensures empty { result.history ≡ [] }
+    {
+        Owner {
+            members,
+            count: 0,
+            in_use: 0,
+            told: [0; FLOOR_LIMIT],
+            away: [false; FLOOR_LIMIT],
+            strays: false,
+            log: Log::new(alloc),
+        }
+    }
+
+    fn floor_of(&self, member: u64) -> u64
+        ensures { result ≡ refusal_floor self.now.history member }
+    {
+        if 0 < member && member <= FLOOR_LIMIT as u64 {
+            self.told[member as usize - 1]
+        } else if self.strays {
+            floor_found(&self.log, member)
+        } else {
+            0
+        }
+    }
+
+    fn is_away(&self, member: u64) -> bool
+        ensures { result ≡ is_away self.now.history member }
+    {
+        if 0 < member && member <= FLOOR_LIMIT as u64 {
+            self.away[member as usize - 1]
+        } else if self.strays {
+            away_found(&self.log, member)
+        } else {
+            false
+        }
+    }
+
+    fn refused(&self, member: u64, qualifier: u16) -> OwnerReply
+        ensures { result ≡ refused self.now.history member qualifier }
+    {
+        OwnerReply::Refused {
+            status: EINVAL,
+            qualifier,
+            floor: self.floor_of(member),
+        }
+    }
+
+    fn is_used(&self, opcode: u16) -> bool
+        requires { opcode ≤ LEGACY_NOTIFY_INFO }
+        ensures { result ≡ is_used self.now.history opcode }
+    {
+        opcode <= LIST_USE || (self.in_use >> opcode) & 1 == 1
+    }
+
+    // On what a command asks, where its group and its opcode are fine.
+    fn verdict_on(&self, member: u64, body: Body) -> OwnerReply
+        ensures { result ≡ verdict_on self.now.history member body }
+    {
+        match body {
+            Body::Query => OwnerReply::List {
+                bits: SUPPORTED_LIST,
+            },
+            Body::Use { bits } => {
+                if bits > SUPPORTED_LIST {
+                    self.refused(member, INVALID_FIELD)
+                } else {
+                    OwnerReply::Used
+                }
+            }
+            Body::Legacy(command) => {
+                if 0 < member && member <= u64::from(self.count) && !self.is_away(member) {
+                    OwnerReply::Legacy {
+                        member: member as u32,
+                        command,
+                    }
+                } else {
+                    self.refused(member, INVALID_MEMBER)
+                }
+            }
+            Body::Unknown => self.refused(member, INVALID_OPCODE),
+        }
+    }
+
+    fn verdict(&self, bytes: &Piece, writable: u32) -> OwnerReply
+        requires { writable ≤ writable_limit }
+        ensures { result ≡ verdict self.now.history bytes.now writable }
+    {
+        let command = read_command(bytes, writable);
+        if command.group_type != SR_IOV {
+            return self.refused(command.member, INVALID_GROUP);
+        }
+        if command.opcode > LEGACY_NOTIFY_INFO || !self.is_used(command.opcode) {
+            return self.refused(command.member, INVALID_OPCODE);
+        }
+        self.verdict_on(command.member, command.body)
+    }
+
+    // What some actor may ask.
+    fn answer(&self, call: &OwnerCall) -> OwnerReply
+        requires { (who : ℕ) × owner_may self.now.made who call.now }
+        ensures { result ≡ owner_answer self.now.history call.now }
+    {
+        match call {
+            OwnerCall::Judge { bytes, writable } => self.verdict(bytes, *writable),
+            _ => OwnerReply::Done,
+        }
+    }
+}
+
+impl Serial for Owner {
+    type Call = OwnerCall;
+
+    type Reply = OwnerReply;
+
+    type Made = u32;
+
+    ghost made = { λ o. o.made };
+
+    ghost history = { λ o. o.history };
+
+    ghost answer = { λ made h call. owner_answer h call };
+
+    ghost is_quiet = { never_quiet };
+
+    ghost may_call = { owner_may };
+
+    ghost spares = { λ made h call. never_spares h call };
+
+    fn apply(&mut self, who: u32, call: &OwnerCall) -> Result<Placed<OwnerReply>, NoMemory> {
+        let at = self.log.length();
+        if at >= HISTORY_LIMIT {
+            return Err(NoMemory);
+        }
+        let reply = self.answer(call);
+        let count = count_after(self.count, call);
+        let in_use = in_use_after(self.in_use, call, &reply);
+        let told = told_after(self.told, call);
+        let away = away_after(self.away, call);
+        let strays = strays_after(self.strays, call);
+        self.log.push(Entry {
+            who,
+            call: call.copy(),
+            reply: reply.copy(),
+        })?;
+        self.count = count;
+        self.in_use = in_use;
+        self.told = told;
+        self.away = away;
+        self.strays = strays;
+        Ok(Placed { at, reply })
+    }
+
+    fn length(&self) -> u64 {
+        self.log.length()
+    }
+
+    fn entry(&self, at: u64) -> &Entry<OwnerCall, OwnerReply> {
+        self.log.entry(at)
+    }
+}

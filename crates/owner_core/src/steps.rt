@@ -1,0 +1,112 @@
+//! What the owner keeps after one call more, for whatever history it was right before.
+ghost use Rattle.std.specs.Prelude.{◌≡◌, ◌-◌, ◌<◌, ◌≤◌, ◌∷◌, ℕ, List, slice_index};
+ghost use Rattle.admin_wire.specs.Command.{list_of};
+ghost use Rattle.board_text.specs.Floors.{number_for};
+ghost use Rattle.group_calls.specs.declared.owner.OwnerReply.{OwnerReply};
+ghost use Rattle.group_calls.specs.Owner.{OwnerEntry, vf_count, list_in_use};
+ghost use Rattle.owner_core.specs.Kept.{AreFloors, AreAway, AreNear};
+
+use board_text::{FLOOR_LIMIT, Floors, Piece};
+use byteorder::{ByteOrder, LittleEndian};
+use group_calls::{OwnerCall, OwnerReply};
+
+// Where the list of a LIST_USE stands in its command, and where it ends.
+const LIST_FROM: usize = 24;
+
+const LIST_TO: usize = 32;
+
+// The first word of a command's list; missing bytes are zeros.
+fn read_list(bytes: &Piece) -> u64
+    ensures { result ≡ list_of bytes.now }
+{
+    let bytes = bytes.as_slice();
+    let mut word = [0; LIST_TO];
+    let length = bytes.len().min(LIST_TO);
+    word[..length].copy_from_slice(&bytes[..length]);
+    LittleEndian::read_u64(&word[LIST_FROM..])
+}
+
+/// The number of virtual functions.
+pub(crate) fn count_after(count: u32, call: &OwnerCall) -> u32
+    ensures { (h : List OwnerEntry) (who : ℕ) (reply : OwnerReply) → count ≡ vf_count h → result ≡ vf_count (record { who = who; call = call.now; reply = reply } ∷ h) }
+{
+    match call {
+        OwnerCall::SetVfs { count } => *count,
+        OwnerCall::Reset { floors: _ } => 0,
+        _ => count,
+    }
+}
+
+/// The opcodes in use, as bits.
+pub(crate) fn in_use_after(in_use: u64, call: &OwnerCall, reply: &OwnerReply) -> u64
+    ensures { (h : List OwnerEntry) (who : ℕ) → in_use ≡ list_in_use h → result ≡ list_in_use (record { who = who; call = call.now; reply = reply.now } ∷ h) }
+{
+    match call {
+        OwnerCall::Judge { bytes, writable: _ } => match reply {
+            OwnerReply::Used => read_list(bytes),
+            _ => in_use,
+        },
+        OwnerCall::Reset { floors: _ } => 0,
+        _ => in_use,
+    }
+}
+
+// The floors of a Reset, one for each member.
+fn spread(floors: &Floors) -> [u64; FLOOR_LIMIT]
+    ensures { (m : ℕ) → 0 < m → m ≤ FLOOR_LIMIT → slice_index result (m - 1) ≡ number_for m floors.now }
+{
+    let mut told = [0; FLOOR_LIMIT];
+    for at in 0..FLOOR_LIMIT {
+        told[at] = floors.at(at as u32 + 1);
+    }
+    told
+}
+
+/// The floor of each member.
+pub(crate) fn told_after(told: [u64; FLOOR_LIMIT], call: &OwnerCall) -> [u64; FLOOR_LIMIT]
+    ensures { (h : List OwnerEntry) (who : ℕ) (reply : OwnerReply) → AreFloors told h → AreFloors result (record { who = who; call = call.now; reply = reply } ∷ h) }
+{
+    match call {
+        OwnerCall::Gone { member, floor } => {
+            let mut new = told;
+            if 0 < *member && *member <= FLOOR_LIMIT as u32 {
+                new[*member as usize - 1] = *floor;
+            }
+            new
+        }
+        OwnerCall::Reset { floors } => spread(floors),
+        _ => told,
+    }
+}
+
+/// Which members are away.
+pub(crate) fn away_after(away: [bool; FLOOR_LIMIT], call: &OwnerCall) -> [bool; FLOOR_LIMIT]
+    ensures { (h : List OwnerEntry) (who : ℕ) (reply : OwnerReply) → AreAway away h → AreAway result (record { who = who; call = call.now; reply = reply } ∷ h) }
+{
+    match call {
+        OwnerCall::Gone { member, floor: _ } => {
+            let mut new = away;
+            if 0 < *member && *member <= FLOOR_LIMIT as u32 {
+                new[*member as usize - 1] = true;
+            }
+            new
+        }
+        _ => away,
+    }
+}
+
+/// Whether a Gone has named a member that no group of 16 has.
+pub(crate) fn strays_after(strays: bool, call: &OwnerCall) -> bool
+    ensures { (h : List OwnerEntry) (who : ℕ) (reply : OwnerReply) → AreNear strays h → AreNear result (record { who = who; call = call.now; reply = reply } ∷ h) }
+{
+    match call {
+        OwnerCall::Gone { member, floor: _ } => {
+            strays || *member == 0 || *member > FLOOR_LIMIT as u32
+        }
+        OwnerCall::Reset { floors } => {
+            let _count = floors.length();
+            strays
+        }
+        _ => strays,
+    }
+}

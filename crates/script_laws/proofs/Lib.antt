@@ -1,0 +1,10 @@
+pub mod Numbers
+pub mod Hexes
+pub mod Values
+pub mod Lines
+pub mod Steps
+pub mod Guests
+pub mod Actors
+pub mod Whats
+pub mod Schedule
+pub mod Whole

@@ -1,0 +1,79 @@
+-- What an access of a guest asks as a grammar of asks and answers: VIRTIO 1.3, 2.12.1 (group administration commands, Legacy Interfaces), 2.9 (driver notifications) and 2.13 (administration virtqueues). Floors are of this project.
+use Rattle.std.specs.Prelude.{◌≡◌, ◌⊎◌, ℕ, ◌+◌, true, false, List, [], ◌∷◌, ◌++◌}
+use Rattle.admin_wire.specs.Writing.{legacy_bytes, result_length}
+use Rattle.admin_wire.specs.declared.command.LegacyCmd.{LegacyCmd}
+use Rattle.group_calls.specs.declared.ask.Ask.{Ask}
+use Rattle.group_calls.specs.declared.ask.Ask.TheVariants.{Queue, Member}
+use Rattle.group_calls.specs.declared.ask.Told.{Told}
+use Rattle.group_calls.specs.declared.ask.Told.TheVariants.{Queue as FromQueue, NoMemory}
+use Rattle.group_calls.specs.declared.queue.RingCall.TheVariants.{Post, Take}
+use Rattle.group_calls.specs.declared.queue.RingReply.TheVariants.{Seq, Full, Closed, Ready, NotYet, Lost, Stale}
+use Rattle.group_calls.specs.declared.member.MemberCall.TheVariants.{Notify}
+use Rattle.group_calls.specs.Asks.{AnswersAsk}
+use Rattle.io_bar.specs.declared.access.Route.{Route}
+use Rattle.io_bar.specs.declared.access.Route.TheVariants.{Command, Doorbell, Local}
+use Rattle.vfio_driver.specs.declared.access.Known.{Known}
+
+-- an ask and its answer
+abbrev pub Exchange : Type 0
+Exchange = Ask × Told
+
+-- each ask of a list has an answer that fits it
+abbrev pub AreAnswered : List Exchange → Type 0
+AreAnswered [] = Unit {0}
+AreAnswered (x ∷ past) = AnswersAsk x.0 x.1 × AreAnswered past
+
+-- ---- Post
+
+-- of the command's bytes, with the guest and the floor that it knows
+abbrev pub IsPost : ℕ → ℕ → ℕ → LegacyCmd → Exchange → Type 0
+IsPost guest floor queue command x = x.0 ≡ Queue queue (Post (legacy_bytes guest command) (8 + result_length command) (record { guest = guest; floor = floor }))
+
+-- answered Seq, with this number
+abbrev pub IsPosted : ℕ → Told → Type 0
+IsPosted seq (FromQueue placed) = placed.reply ≡ Seq seq
+IsPosted seq _ = ⊥
+
+-- answered Full or Closed, or there was no memory
+abbrev pub IsNotPosted : Told → Type 0
+IsNotPosted (FromQueue placed) = elim placed.reply [ Full ↦ Unit {0} | Closed floor ↦ Unit {0} | _ ↦ ⊥ ]
+IsNotPosted NoMemory = Unit {0}
+IsNotPosted _ = ⊥
+
+-- ---- Take
+
+abbrev pub IsTake : ℕ → ℕ → Exchange → Type 0
+IsTake queue seq x = x.0 ≡ Queue queue (Take seq)
+
+-- answered Ready or Lost
+abbrev pub IsTaken : Told → Type 0
+IsTaken (FromQueue placed) = elim placed.reply [ Ready bytes floor ↦ Unit {0} | Lost floor ↦ Unit {0} | _ ↦ ⊥ ]
+IsTaken _ = ⊥
+
+-- answered NotYet, or Stale, which comes where another has taken the command
+abbrev pub IsNotTaken : Told → Type 0
+IsNotTaken (FromQueue placed) = elim placed.reply [ NotYet ↦ Unit {0} | Stale ↦ Unit {0} | _ ↦ ⊥ ]
+IsNotTaken _ = ⊥
+
+-- so, any number of times
+abbrev pub AreWaits : ℕ → ℕ → List Exchange → Type 0
+AreWaits queue seq [] = Unit {0}
+AreWaits queue seq (x ∷ past) = IsTake queue seq x × IsNotTaken x.1 × AreWaits queue seq past
+
+-- ---- what an access asks that goes this way, by a guest that knows this of its member; the latest ask stands first
+
+pub data IsAccess (guest : ℕ) (known : Known) (queue : ℕ) : Route → List Exchange → Type 0 where
+  asks_nothing : (route : Route) → (known.gone ≡ true) ⊎ (route ≡ Local) → IsAccess guest known queue route []
+  is_rung : (number : ℕ) (x : Exchange) → known.gone ≡ false → x.0 ≡ Member guest known.floor (Notify number) → IsAccess guest known queue (Doorbell number) (x ∷ [])
+  is_not_posted : (command : LegacyCmd) (post : Exchange) → known.gone ≡ false → IsPost guest known.floor queue command post → IsNotPosted post.1
+      → IsAccess guest known queue (Command command) (post ∷ [])
+  is_taken_back : (command : LegacyCmd) (seq : ℕ) (post : Exchange) (waits : List Exchange) (take : Exchange) → known.gone ≡ false → IsPost guest known.floor queue command post → IsPosted seq post.1
+      → AreWaits queue seq waits → IsTake queue seq take → IsTaken take.1 → IsAccess guest known queue (Command command) (take ∷ (waits ++ post ∷ []))
+
+-- an access with its answers
+abbrev pub IsAnsweredAccess : ℕ → Known → ℕ → Route → List Exchange → Type 0
+IsAnsweredAccess guest known queue route xs = AreAnswered xs × IsAccess guest known queue route xs
+
+-- the beginning of an access, which isn't all of it, with its answers
+abbrev pub BeginsAccess : ℕ → Known → ℕ → Route → List Exchange → Type 0
+BeginsAccess guest known queue route xs = AreAnswered xs × ((next : Exchange) × (more : List Exchange) × IsAccess guest known queue route (more ++ next ∷ xs))
