@@ -1,5 +1,5 @@
 -- What a command is completed with (VIRTIO 1.3, 2.12.1, group administration commands).
-use Rattle.std.specs.Prelude.{ℕ, ◌-◌, List, [], ◌∷◌, Option, None, Some}
+use Rattle.std.specs.Prelude.{ℕ, List, [], Option, None, Some}
 use Rattle.byte_fields.specs.Places.{bytes_of}
 use Rattle.admin_wire.specs.Done.{done_of}
 use Rattle.admin_wire.specs.declared.command.LegacyCmd.{LegacyCmd}

@@ -1,7 +1,6 @@
 -- The group that the input of `admin` works on: an owner for 16 members, and the members (VIRTIO 1.3, 2.12, device groups). What the members are is of this project.
-use Rattle.std.specs.Prelude.{ℕ, zero, suc, ◌++◌, ◌+◌, ◌-◌, ◌==◌, ◌%◌, Bool, false, List, [], ◌∷◌, Option, None, Some, map, slice_set, if◌then◌else◌, length}
+use Rattle.std.specs.Prelude.{ℕ, zero, suc, ◌++◌, ◌+◌, ◌-◌, ◌==◌, ◌%◌, false, List, [], ◌∷◌, Option, None, Some, map, slice_set, if◌then◌else◌, length}
 use Rattle.std.specs.List.{slice_get}
-use Rattle.admin_wire.specs.declared.command.LegacyCmd.{LegacyCmd}
 use Rattle.legacy_regs.specs.declared.device.Kind.{Kind}
 use Rattle.legacy_regs.specs.declared.device.Kind.TheVariants.{Block, Net}
 use Rattle.history.specs.Legal.{Cell}
@@ -13,7 +12,6 @@ use Rattle.group_calls.specs.declared.member.MemberMade.{MemberMade}
 use Rattle.group_calls.specs.declared.member.MemberCall.{MemberCall}
 use Rattle.group_calls.specs.declared.member.MemberCall.TheVariants.{Act, Kill}
 use Rattle.group_calls.specs.declared.member.MemberReply.{MemberReply}
-use Rattle.group_calls.specs.declared.member.MemberReply.TheVariants.{Killed, Gone}
 use Rattle.group_calls.specs.Owner.{OwnerEntry, owner_answer}
 use Rattle.group_calls.specs.Member.{member_answer}
 use Rattle.admin_script.specs.declared.line.AdminLine.{AdminLine}
@@ -68,14 +66,9 @@ member_of g number = slice_get g.members (number - 1)
 
 -- ---- lines
 
--- the floor that a Kill at a place shows: the place and one, or that of an earlier Kill
-abbrev pub floor_shown : ℕ → MemberReply → ℕ
-floor_shown place Killed = place + 1
-floor_shown place (Gone floor) = floor
-floor_shown place _ = 0
-
+-- the floor that a Kill shows: its place and one
 abbrev pub floor_after_kill : MemberCell → ℕ
-floor_after_kill m = floor_shown (length m.history) (reply_of Kill m)
+floor_after_kill m = length m.history + 1
 
 -- a register access that the owner lets through acts on its member
 abbrev pub acted : Group → OwnerReply → List MemberCell

@@ -1,18 +1,11 @@
 -- What the code keeps of a group, and what its functions do. Of this project.
-use Rattle.std.specs.Prelude.{◌≡◌, ℕ, ◌≤◌, ◌-◌, List, [], ◌∷◌, ◌++◌, Option, None, Some, drop, length}
-use Rattle.std.specs.List.{slice_get}
-use Rattle.admin_wire.specs.declared.command.LegacyCmd.{LegacyCmd}
-use Rattle.group_calls.specs.declared.owner.OwnerCall.TheVariants.{Judge}
+use Rattle.std.specs.Prelude.{◌≡◌, ℕ, ◌≤◌, List, [], ◌++◌, Option, None, Some, replicate, length}
+use Rattle.byte_fields.specs.Places.{bytes_of}
 use Rattle.group_calls.specs.declared.owner.OwnerReply.{OwnerReply}
 use Rattle.group_calls.specs.declared.member.MemberCall.{MemberCall}
-use Rattle.group_calls.specs.declared.member.MemberCall.TheVariants.{Act}
 use Rattle.group_calls.specs.declared.member.MemberReply.{MemberReply}
-use Rattle.group_calls.specs.Owner.{owner_answer}
-use Rattle.admin_script.specs.declared.line.AdminLine.{AdminLine}
-use Rattle.admin_script.specs.declared.line.AdminLine.TheVariants.{Vfs, Reset, Cmd}
-use Rattle.admin_run.specs.Group.{MemberCell, Group, reply_of, acted}
+use Rattle.admin_run.specs.Group.{MemberCell, reply_of, acted}
 use Rattle.admin_run.specs.Completion.{verdict_done}
-use Rattle.admin_run.specs.Answers.{answers}
 
 -- the owner was made for 16 members, and there are no more
 pub record IsWhole (owner_made : ℕ) (members : List MemberCell) : Type 0 where
@@ -30,3 +23,7 @@ acted_on members verdict = acted (record { owner = []; members = members }) verd
 
 abbrev pub done_for : List MemberCell → ℕ → OwnerReply → List ℕ
 done_for members writable verdict = verdict_done (record { owner = []; members = members }) writable verdict
+
+-- what stands before the result of a completion
+abbrev pub fixed_of : ℕ → ℕ → List ℕ
+fixed_of status qualifier = bytes_of 2 status ++ bytes_of 2 qualifier ++ replicate 4 0

@@ -1,18 +1,20 @@
-//! What a command is completed with.
-ghost use Rattle.std.specs.Prelude.{◌≡◌, ◌≤◌, ◌++◌, ℕ, [], length, OnOk};
+//! What a command is completed with, as a line.
+ghost use Rattle.std.specs.Prelude.{◌≡◌, ◌≤◌, ◌++◌, ◌-◌, ◌<◌, [], take, min, length, OnOk};
 ghost use Rattle.byte_fields.specs.Places.{bytes_of};
+ghost use Rattle.hex.specs.Hex.{encode_lower};
 ghost use Rattle.admin_wire.specs.Done.{done_of};
 ghost use Rattle.admin_run.specs.Completion.{access_done};
 ghost use Rattle.admin_run.specs.Answers.{done_line};
+ghost use Rattle.admin_run.specs.Kept.{fixed_of};
 
-use admin_wire::write_done;
-use board_text::{Bytes, Piece};
+use board_text::Bytes;
 use group_calls::MemberReply;
 use serve_machine::notify_info;
 use std::alloc::AllocError as NoMemory;
+use text_out::push_hex;
 
-// How many bytes stand behind the fixed ones of a completion at most.
-const PAYLOAD_LIMIT: usize = 248;
+// How many bytes a completion has before its result.
+const FIXED_SIZE: usize = 8;
 
 // EINVAL, and the qualifiers of an invalid field and an invalid member.
 const EINVAL: u16 = 22;
@@ -21,76 +23,102 @@ const INVALID_FIELD: u16 = 2;
 
 const INVALID_MEMBER: u16 = 4;
 
-/// A completion without a result.
-pub(crate) fn plain_done(status: u16, qualifier: u16, writable: u32) -> Piece
-    ensures { result ≡ done_of status qualifier [] writable }
+// The status, the qualifier, and four reserved bytes.
+fn fixed_part(status: u16, qualifier: u16) -> [u8; 8]
+    ensures { result ≡ fixed_of status qualifier }
 {
-    write_done(status, qualifier, &Piece::new(), writable)
+    let status = status.to_le_bytes();
+    let qualifier = qualifier.to_le_bytes();
+    [status[0], status[1], qualifier[0], qualifier[1], 0, 0, 0, 0]
 }
 
-// As much of a payload as a completion has room for.
-fn front_of(payload: &[u8]) -> &[u8]
-    ensures short { length result.now ≤ 248 }
-    ensures enough { (writable : ℕ) → writable ≤ 256 → done_of 0 0 result.now writable ≡ done_of 0 0 payload.now writable }
+// Appends the hex of a fixed part and a payload, as far as they are writable.
+fn push_bytes(
+    output: &mut Bytes,
+    fixed: &[u8; 8],
+    payload: &[u8],
+    writable: usize,
+) -> Result<(), NoMemory>
+    ensures { OnOk result (output.new ≡ output.old ++ encode_lower (take writable (fixed.now ++ payload.now))) }
 {
-    if payload.len() <= PAYLOAD_LIMIT {
-        payload
-    } else {
-        &payload[..PAYLOAD_LIMIT]
-    }
+    let front = writable.min(FIXED_SIZE);
+    push_hex(output, &fixed[..front])?;
+    let count = payload.len().min(writable - front);
+    push_hex(output, &payload[..count])
 }
 
-/// The completion with status 0 and a result of any length. At most 256 bytes are writable.
-fn result_done(payload: &[u8], writable: u32) -> Piece
-    requires { writable ≤ 256 }
-    ensures { result ≡ done_of 0 0 payload.now writable }
+// Appends the line of a completion with a fixed part and a payload.
+fn push_completion(
+    output: &mut Bytes,
+    fixed: &[u8; 8],
+    payload: &[u8],
+    writable: u32,
+) -> Result<(), NoMemory>
+    ensures { OnOk result (output.new ≡ output.old ++ done_line (take writable (fixed.now ++ payload.now))) }
 {
-    write_done(0, 0, &Piece::from_slice(front_of(payload)), writable)
-}
-
-// A list of opcodes, as bits.
-fn list_bytes(bits: u64) -> Piece
-    ensures bytes { result ≡ bytes_of 8 bits }
-    ensures size { length result ≡ 8 }
-{
-    Piece::from_slice(&bits.to_le_bytes())
-}
-
-/// The completion of LIST_QUERY.
-pub(crate) fn list_done(bits: u64, writable: u32) -> Piece
-    ensures { result ≡ done_of 0 0 (bytes_of 8 bits) writable }
-{
-    write_done(0, 0, &list_bytes(bits), writable)
-}
-
-/// The completion of a register access that the member answered so.
-pub(crate) fn access_done(reply: &MemberReply, writable: u32) -> Piece
-    requires { writable ≤ 256 }
-    ensures { result ≡ access_done writable reply.now }
-{
-    match reply {
-        MemberReply::Data(bytes) => result_done(bytes.as_slice(), writable),
-        MemberReply::Written => plain_done(0, 0, writable),
-        MemberReply::Info => write_done(0, 0, &notify_info(), writable),
-        MemberReply::Refused(_) => plain_done(EINVAL, INVALID_FIELD, writable),
-        MemberReply::Gone { .. } => plain_done(EINVAL, INVALID_MEMBER, writable),
-        _ => Piece::new(),
-    }
-}
-
-/// Appends the line for a completion.
-pub(crate) fn push_done(output: &mut Bytes, done: &Piece) -> Result<(), NoMemory>
-    ensures { OnOk result (output.new ≡ output.old ++ done_line done.now) }
-{
-    let bytes = done.as_slice();
     output.extend(b"done ")?;
-    if bytes.is_empty() {
+    if writable == 0 {
         output.push(b'-')?;
     } else {
-        let mut digits = [0; 512];
-        let digits = &mut digits[..2 * bytes.len()];
-        hex::encode_to_slice(bytes, digits).unwrap();
-        output.extend(digits)?;
+        push_bytes(output, fixed, payload, writable as usize)?;
     }
     output.push(b'\n')
+}
+
+/// Appends the line of a completion with status 0 and a result.
+pub(crate) fn push_result(output: &mut Bytes, payload: &[u8], writable: u32) -> Result<(), NoMemory>
+    ensures { OnOk result (output.new ≡ output.old ++ done_line (done_of 0 0 payload.now writable)) }
+{
+    push_completion(output, &fixed_part(0, 0), payload, writable)
+}
+
+/// Appends the line of a completion without a result.
+pub(crate) fn push_plain(
+    output: &mut Bytes,
+    status: u16,
+    qualifier: u16,
+    writable: u32,
+) -> Result<(), NoMemory>
+    ensures { OnOk result (output.new ≡ output.old ++ done_line (done_of status qualifier [] writable)) }
+{
+    push_completion(output, &fixed_part(status, qualifier), &[], writable)
+}
+
+// The first word of a list of opcodes.
+fn list_bytes(bits: u64) -> [u8; 8]
+    ensures { result ≡ bytes_of 8 bits }
+{
+    bits.to_le_bytes()
+}
+
+/// Appends the line of the completion of LIST_QUERY.
+pub(crate) fn push_list(output: &mut Bytes, bits: u64, writable: u32) -> Result<(), NoMemory>
+    ensures { OnOk result (output.new ≡ output.old ++ done_line (done_of 0 0 (bytes_of 8 bits) writable)) }
+{
+    push_result(output, &list_bytes(bits), writable)
+}
+
+/// Appends the line of a completion of no byte, whatever is writable.
+pub(crate) fn push_nothing(output: &mut Bytes) -> Result<(), NoMemory>
+    ensures { OnOk result (output.new ≡ output.old ++ done_line []) }
+{
+    output.extend(b"done -\n")
+}
+
+/// Appends the line of the completion of a register access that the member answered so.
+pub(crate) fn push_access(
+    output: &mut Bytes,
+    reply: &MemberReply,
+    writable: u32,
+) -> Result<(), NoMemory>
+    ensures { OnOk result (output.new ≡ output.old ++ done_line (access_done writable reply.now)) }
+{
+    match reply {
+        MemberReply::Data(bytes) => push_result(output, bytes.as_slice(), writable),
+        MemberReply::Written => push_plain(output, 0, 0, writable),
+        MemberReply::Info => push_result(output, notify_info().as_slice(), writable),
+        MemberReply::Refused(_) => push_plain(output, EINVAL, INVALID_FIELD, writable),
+        MemberReply::Gone { .. } => push_plain(output, EINVAL, INVALID_MEMBER, writable),
+        _ => push_nothing(output),
+    }
 }

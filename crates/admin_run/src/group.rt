@@ -4,16 +4,16 @@ ghost use Rattle.std.specs.List.{slice_get};
 ghost use Rattle.group_calls.specs.declared.owner.OwnerCall.TheVariants.{SetVfs, Judge};
 ghost use Rattle.group_calls.specs.declared.member.MemberCall.TheVariants.{Act, Kill};
 ghost use Rattle.group_calls.specs.Owner.{owner_answer, owner_may};
-ghost use Rattle.admin_run.specs.Group.{first_group, fresh_member, kind_of as kind_for, called, called_at, member_of, acted, after_line, asked, floor_shown as floor_of, floor_after_kill};
+ghost use Rattle.admin_run.specs.Group.{first_group, fresh_member, kind_of as kind_for, called, called_at, member_of, acted, after_line, asked, floor_after_kill};
 ghost use Rattle.admin_run.specs.Completion.{completion as completion_of};
+ghost use Rattle.admin_run.specs.Answers.{done_line};
 ghost use Rattle.admin_run.specs.Kept.{reply_at, acted_on, done_for};
-ghost use Rattle.history.specs.Limits.{history_limit};
 ghost use Rattle.admin_script.specs.declared.line.AdminLine.TheVariants as AdminLine;
 
-use crate::completion::{access_done, list_done, plain_done};
+use crate::completion::{push_access, push_list, push_nothing, push_plain};
 use admin_wire::LegacyCmd;
-use board_text::{Floors, Piece};
-use group_calls::{Kind, MemberCall, MemberReply, OwnerCall, OwnerReply, Placed, Serial};
+use board_text::{Bytes, Floors, Piece};
+use group_calls::{Kind, MemberCall, MemberReply, OwnerCall, OwnerReply, Serial};
 use member_core::Member;
 use owner_core::Owner;
 use std::alloc::{AllocError as NoMemory, Global};
@@ -68,26 +68,14 @@ fn fresh_member(alloc: Global, number: u32) -> Result<Member, NoMemory>
     Member::new(alloc, number, 1, kind_of(number))
 }
 
-// The floor that a Kill at a place shows.
-fn floor_shown(place: u64, reply: &MemberReply) -> u64
-    requires { place ≤ history_limit }
-    ensures { result ≡ floor_of place reply.now }
-{
-    match reply {
-        MemberReply::Killed => place + 1,
-        MemberReply::Gone { floor } => *floor,
-        _ => 0,
-    }
-}
-
 // Kills a member, and says what floor that shows.
 fn kill(member: &mut Member) -> Result<u64, NoMemory>
     ensures member { OnOk result (member.new ≡ called Kill member.old) }
     ensures floor { IfOk result (λ floor. floor ≡ floor_after_kill member.old) }
 {
     let place = member.length();
-    let placed = member.apply(BOARD, &MemberCall::Kill)?;
-    Ok(floor_shown(place, &placed.reply))
+    member.apply(BOARD, &MemberCall::Kill)?;
+    Ok(place + 1)
 }
 
 // Kills all members, of which there are at most 16, and says what floors that shows.
@@ -122,30 +110,30 @@ fn act(
     Ok(Some(placed.reply))
 }
 
-// What a verdict is completed with; a register access is carried out at its member.
+// Appends the line of what a verdict is completed with; a register access is carried out at its member.
 fn carry_out(
     members: &mut Vec<Member>,
+    output: &mut Bytes,
     verdict: OwnerReply,
     writable: u32,
-) -> Result<Piece, NoMemory>
-    requires { writable ≤ 256 }
+) -> Result<(), NoMemory>
     ensures length { length members.new.items ≡ length members.old.items }
     ensures members { OnOk result (members.new.items ≡ acted_on members.old.items verdict) }
-    ensures done { IfOk result (λ done. done ≡ done_for members.old.items writable verdict) }
+    ensures output { OnOk result (output.new ≡ output.old ++ done_line (done_for members.old.items writable verdict)) }
 {
     match verdict {
-        OwnerReply::List { bits } => Ok(list_done(bits, writable)),
-        OwnerReply::Used => Ok(plain_done(0, 0, writable)),
+        OwnerReply::List { bits } => push_list(output, bits, writable),
+        OwnerReply::Used => push_plain(output, 0, 0, writable),
         OwnerReply::Refused {
             status,
             qualifier,
             ..
-        } => Ok(plain_done(status, qualifier, writable)),
+        } => push_plain(output, status, qualifier, writable),
         OwnerReply::Legacy { member, command } => match act(members, member, command)? {
-            Some(reply) => Ok(access_done(&reply, writable)),
-            None => Ok(Piece::new()),
+            Some(reply) => push_access(output, &reply, writable),
+            None => push_nothing(output),
         },
-        OwnerReply::Done => Ok(Piece::new()),
+        OwnerReply::Done => push_nothing(output),
     }
 }
 
@@ -182,18 +170,23 @@ impl DeviceGroup {
         Ok(())
     }
 
-    /// Judges a command, carries it out at its member where the owner lets it through, and says what it is completed
-    /// with. At most 256 bytes are writable.
-    pub fn serve(&mut self, bytes: &Piece, writable: u32) -> Result<Piece, NoMemory>
+    /// Judges a command, carries it out at its member where the owner lets it through, and appends the line of its
+    /// completion. At most 256 bytes are writable.
+    pub fn serve(
+        &mut self,
+        output: &mut Bytes,
+        bytes: &Piece,
+        writable: u32,
+    ) -> Result<(), NoMemory>
         requires { writable ≤ 256 }
         ensures group { OnOk result (self.new ≡ after_line self.old (AdminLine.Cmd writable bytes.now)) }
-        ensures done { IfOk result (λ done. done ≡ completion_of self.old writable bytes.now) }
+        ensures output { OnOk result (output.new ≡ output.old ++ done_line (completion_of self.old writable bytes.now)) }
     {
         let judge = OwnerCall::Judge {
             bytes: bytes.copy(),
             writable,
         };
         let placed = self.owner.apply(BOARD, &judge)?;
-        carry_out(&mut self.members, placed.reply, writable)
+        carry_out(&mut self.members, output, placed.reply, writable)
     }
 }

@@ -1,10 +1,9 @@
 //! The lines of a text, one after another.
 ghost use Rattle.std.specs.Prelude.{◌≡◌, ◌++◌, IfOk, OnOk};
-ghost use Rattle.admin_script.specs.Admin.{IsAdminLine};
+ghost use Rattle.admin_script.specs.Bounds.{IsAdminLine};
 ghost use Rattle.admin_run.specs.Group.{after_line};
 ghost use Rattle.admin_run.specs.Answers.{answer_to, admin_output};
 
-use crate::completion::push_done;
 use crate::group::DeviceGroup;
 use admin_script::{AdminLine, AdminText};
 use board_text::Bytes;
@@ -19,10 +18,7 @@ fn answer(group: &mut DeviceGroup, output: &mut Bytes, line: &AdminLine) -> Resu
     match line {
         AdminLine::Vfs { count } => group.set_functions(*count),
         AdminLine::Reset => group.reset(),
-        AdminLine::Cmd { writable, bytes } => {
-            let done = group.serve(bytes, *writable)?;
-            push_done(output, &done)
-        }
+        AdminLine::Cmd { writable, bytes } => group.serve(output, bytes, *writable),
     }
 }
 

@@ -1,5 +1,5 @@
 -- The input of `admin`: which texts are read, and what they say. Of this project.
-use Rattle.std.specs.Prelude.{ℕ, ◌+◌, ◌≤◌, ◌==◌, length, Bool, true, false, if◌then◌else◌, List, [], ◌∷◌, ◌++◌, codes, Option, Some, None, Result, Ok, Err}
+use Rattle.std.specs.Prelude.{ℕ, ◌+◌, ◌==◌, length, Bool, true, false, if◌then◌else◌, List, [], ◌∷◌, ◌++◌, codes, Option, Some, None, Result, Ok, Err}
 use Rattle.std.specs.List.{list_any}
 use Rattle.std.specs.Str.{bytes_eq}
 use Rattle.board_text.specs.Line.{lines_of}
@@ -32,12 +32,6 @@ abbrev pub begins : AdminLine → Bool
 begins (admin.Vfs count) = true
 begins admin.Reset = true
 begins (admin.Cmd writable bytes) = false
-
--- what each line keeps to
-abbrev pub IsAdminLine : AdminLine → Type 0
-IsAdminLine (admin.Vfs count) = count ≤ function_limit
-IsAdminLine admin.Reset = Unit {0}
-IsAdminLine (admin.Cmd writable bytes) = (writable ≤ room_limit) × (length bytes ≤ command_limit)
 
 -- The cause `setup`: a `vfs` after a `vfs` or a `reset`.
 abbrev pub breaks_admin : List AdminLine → AdminShape → Bool

@@ -1,3 +1,3 @@
 pub mod Limits
 pub mod Admin
-pub mod Kept
+pub mod Bounds

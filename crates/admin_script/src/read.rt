@@ -1,8 +1,9 @@
 //! Reading the input of `admin`.
-ghost use Rattle.std.specs.Prelude.{◌≡◌, ◌<◌, ◌≤◌, ◌-◌, ◌^◌, length, IfOk};
+ghost use Rattle.std.specs.Prelude.{◌≡◌, ◌<◌, ◌-◌, ◌^◌, length, IfOk};
 ghost use Rattle.script_words.specs.Texts.{Reads};
 ghost use Rattle.script_words.specs.Values.{Gives, Steps};
-ghost use Rattle.admin_script.specs.Admin.{breaks_admin, command_bytes, admin_row, IsAdminLine, with_admin_row, with_admin_form, with_admin_text, admin_text_of};
+ghost use Rattle.admin_script.specs.Bounds.{IsAdminLine};
+ghost use Rattle.admin_script.specs.Admin.{breaks_admin, command_bytes, admin_row, with_admin_row, with_admin_form, with_admin_text, admin_text_of};
 
 use crate::limits::{COMMAND_LIMIT, FUNCTION_LIMIT, ROOM_LIMIT};
 use crate::line::AdminLine;
@@ -23,8 +24,7 @@ fn breaks_setup(earlier: &AdminText, shape: &AdminShape) -> bool
 }
 
 fn command(word: &Word) -> Result<Piece, Fault>
-    ensures value { Gives result (command_bytes word.now) }
-    ensures bound { IfOk result (λ bytes. length bytes ≤ 256) }
+    ensures { Gives result (command_bytes word.now) }
 {
     if word.is(b"-") {
         return Ok(Piece::new());

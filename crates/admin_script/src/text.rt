@@ -1,7 +1,8 @@
 //! The lines of the input of `admin`.
 ghost use Rattle.std.specs.Prelude.{◌≡◌, ◌<◌, ◌++◌, ◌∷◌, [], length, OnOk, Some};
 ghost use Rattle.std.specs.List.{slice_get, list_any};
-ghost use Rattle.admin_script.specs.Admin.{begins as begins_of, IsAdminLine};
+ghost use Rattle.admin_script.specs.Admin.{begins as begins_of};
+ghost use Rattle.admin_script.specs.Bounds.{IsAdminLine};
 
 use crate::line::{AdminLine, begins};
 use std::alloc::{AllocError as NoMemory, Global};
@@ -16,15 +17,17 @@ pub struct AdminText {
 }
 
 impl Model for AdminText {
-    ghost use Rattle.std.specs.Prelude.{List};
+    ghost use Rattle.std.specs.Prelude.{◌≡◌, List};
+    ghost use Rattle.std.specs.List.{All, list_any};
     ghost use Rattle.admin_script.specs.declared.line.AdminLine.{AdminLine};
-    ghost use Rattle.admin_script.specs.Kept.{KeepsLines};
+    ghost use Rattle.admin_script.specs.Admin.{begins};
+    ghost use Rattle.admin_script.specs.Bounds.{IsAdminLine};
 
     ghost Value = { List AdminLine };
 
     ghost view = { λ t. t.lines.items };
 
-    ghost invariant = { λ t. KeepsLines t.begun t.lines.items };
+    ghost invariant = { λ t. (t.begun ≡ list_any begins t.lines.items) × All IsAdminLine t.lines.items };
 }
 
 impl AdminText {
@@ -60,7 +63,7 @@ impl AdminText {
         self.lines.len()
     }
 
-    /// A line, counted from 0.
+    /// A line, counted from 0. Its contract also tells the bounds of what it says.
     pub fn line(&self, index: usize) -> &AdminLine
         requires { index < length self.now }
         ensures value { slice_get self.now index ≡ Some result.now }

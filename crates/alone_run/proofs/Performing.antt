@@ -1,6 +1,6 @@
 -- What a performed line makes of the guest, and what it is shown.
-use Rattle.std.proofs.Common.{◌≡◌, ℕ, ◌-◌, ◌+◌, ◌<◌, Bool, true, false, List, [], ◌∷◌, ◌++◌, Option, Some, None, refl, sym, ap, ◌∙◌, subst, append_assoc}
-use Rattle.std.specs.Prelude.{◌==◌, option_map, unwrap_or, nat_lt, if◌then◌else◌, drop}
+use Rattle.std.proofs.Common.{◌≡◌, ℕ, ◌+◌, Bool, true, false, List, [], ◌∷◌, ◌++◌, Option, Some, None, refl, sym, ap, ◌∙◌, subst, append_assoc}
+use Rattle.std.specs.Prelude.{◌==◌, option_map, unwrap_or, if◌then◌else◌, drop}
 use Rattle.std.proofs.lemmas.Option.{same_Some, none-some, slice_get_within, get_or_from_slice_get}
 use Rattle.std.proofs.lemmas.List.{drop_more}
 use Rattle.std.specs.List.{slice_get}
@@ -14,18 +14,17 @@ use Rattle.group_calls.specs.declared.member.MemberCall.TheVariants.{Msix as Msi
 use Rattle.group_calls.specs.declared.member.MemberReply.{MemberReply}
 use Rattle.group_calls.specs.declared.lone.LoneEvent.{LoneEvent}
 use Rattle.group_calls.specs.declared.lone.LoneEvent.TheVariants.{Read, Write, Other as Called}
-use Rattle.group_calls.specs.declared.lone.LoneReply.{LoneReply}
 use Rattle.group_calls.specs.declared.lone.LoneItem.{LoneItem}
 use Rattle.group_calls.specs.MemberEntries.{MemberEntry}
 use Rattle.group_calls.specs.MemberRegisters.{is_msix}
 use Rattle.group_calls.specs.Member.{member_answer}
-use Rattle.group_calls.specs.Lone.{access_of, device_base, as_history, reply_of, device_reply, lone_over, lone_reply, read_reply}
+use Rattle.group_calls.specs.Lone.{access_of, device_base, as_history, reply_of, device_reply, lone_over, lone_reply}
 use Rattle.board_script.specs.declared.script.ActorLine.{ActorLine}
 use Rattle.board_script.specs.declared.script.What.{What}
 use Rattle.board_script.specs.declared.script.What.TheVariants as what
 use Rattle.alone_run.specs.declared.guest.Guest.{Guest}
 use Rattle.alone_run.specs.Lines.{event_of, lone_words, answer_words}
-use Rattle.alone_run.specs.Transcript.{io_set, has_io, with_event, events, reply_to, answer_to, numbered, shown, transcript}
+use Rattle.alone_run.specs.Transcript.{has_io, with_event, events, answer_to, numbered, shown, transcript}
 use Rattle.alone_run.specs.Kept.{Stands, call_of, told_words, words_for, io_after, Asks, PerformsCall, Performs, shown_for, Shows, SoFar}
 
 -- ---- I/O

@@ -1,12 +1,11 @@
 -- What the code keeps of a guest, and what a function of it does. Of this project.
-use Rattle.std.specs.Prelude.{◌≡◌, ◌==◌, if◌then◌else◌, ℕ, Bool, true, length, List, [], ◌∷◌, ◌++◌, drop, codes, Option, None, Some}
+use Rattle.std.specs.Prelude.{◌≡◌, ◌==◌, if◌then◌else◌, ℕ, Bool, true, length, List, [], ◌∷◌, ◌++◌, codes, Option, None, Some}
 use Rattle.legacy_regs.specs.Fields.{common_size}
 use Rattle.legacy_regs.specs.declared.device.Kind.{Kind}
 use Rattle.group_calls.specs.declared.member.MemberMade.{MemberMade}
 use Rattle.group_calls.specs.declared.member.MemberCall.{MemberCall}
 use Rattle.group_calls.specs.declared.member.MemberReply.{MemberReply}
 use Rattle.group_calls.specs.declared.lone.LoneEvent.{LoneEvent}
-use Rattle.group_calls.specs.MemberEntries.{MemberEntry}
 use Rattle.group_calls.specs.MemberRegisters.{is_msix}
 use Rattle.group_calls.specs.Member.{member_answer}
 use Rattle.group_calls.specs.Lone.{access_of, as_history, read_reply}
@@ -62,11 +61,22 @@ pub record Asks (old new : Guest) (call : MemberCall) (told : MemberReply) : Typ
   pub history_is : new.member.history ≡ record { who = 0; call = call; reply = told } ∷ old.member.history
   pub msix_is : old.msix ≡ is_msix old.member.history → new.msix ≡ is_msix new.member.history
 
--- a line was performed, by the call that it is, if it is one
+-- a call has its reply
+abbrev pub Asked : Guest → Guest → MemberCall → Option MemberReply → Type 0
+Asked old new call None = ⊥
+Asked old new call (Some told) = Asks old new call told
+
+-- an access was performed, by the call that it is, if it is one
+abbrev pub Accesses : Guest → Guest → Option MemberCall → Option MemberReply → Type 0
+Accesses old new None None = new ≡ old
+Accesses old new None (Some told) = ⊥
+Accesses old new (Some call) told = Asked old new call told
+
+-- and so was a line
 abbrev pub PerformsCall : Guest → Guest → What → Option MemberCall → Option MemberReply → Type 0
 PerformsCall old new asked None None = new ≡ record old { io = io_after old.io asked }
-PerformsCall old new asked (Some call) (Some told) = Asks old new call told
-PerformsCall old new asked _ _ = ⊥
+PerformsCall old new asked None (Some told) = ⊥
+PerformsCall old new asked (Some call) told = Asked old new call told
 
 abbrev pub Performs : Guest → Guest → What → Option MemberReply → Type 0
 Performs old new asked told = PerformsCall old new asked (call_of old.msix (event_of old.bar old.io asked)) told

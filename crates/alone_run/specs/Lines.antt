@@ -1,5 +1,5 @@
 -- What a line of a script asks of a device that stands alone, and how its answer is printed. Of this project.
-use Rattle.std.specs.Prelude.{ℕ, ◌%◌, Bool, true, List, [], ◌∷◌, ◌++◌, Option, None, Some, replicate, codes, length, if◌then◌else◌}
+use Rattle.std.specs.Prelude.{ℕ, ◌%◌, Bool, List, [], ◌∷◌, Option, None, Some, replicate, codes, if◌then◌else◌}
 use Rattle.hex.specs.Hex.{encode_lower}
 use Rattle.legacy_regs.specs.declared.device.Kind.{Kind}
 use Rattle.io_bar.specs.declared.access.Access.TheVariants.{Read as ReadOf, Write as WriteOf}

@@ -4,20 +4,19 @@ ghost use Rattle.group_calls.specs.declared.member.MemberMade.{MemberMade};
 ghost use Rattle.group_calls.specs.Member.{IsMemberMade, member_answer};
 ghost use Rattle.group_calls.specs.MemberEntries.{MemberEntry, is_done as is_done_of};
 ghost use Rattle.group_calls.specs.MemberRegisters.{is_msix};
-ghost use Rattle.board_script.specs.declared.script.ActorLine.{ActorLine};
 ghost use Rattle.alone_run.specs.Lines.{event_of};
 ghost use Rattle.alone_run.specs.Transcript.{shown, made_for};
-ghost use Rattle.alone_run.specs.Kept.{Stands, HasWidth, Asks, Performs, io_after, Shows, shown_for};
+ghost use Rattle.alone_run.specs.Kept.{Stands, HasWidth, Asked, Shows, shown_for};
 ghost use Rattle.board_script.specs.Bounds.{IsSetup};
 
-use crate::calls::call_for;
-use crate::words::{push_number, push_words};
-use board_script::{ActorLine, Setup, What};
+use crate::words::push_words;
+use board_script::{ActorLine, Setup};
 use board_text::Bytes;
 use group_calls::{MemberCall, MemberReply, Serial};
 use io_bar::Bar;
 use member_core::Member;
 use std::alloc::{AllocError as NoMemory, Global};
+use text_out::push_number;
 
 /// A guest with its device, and what its lines left: whether I/O accesses and MSI-X are enabled.
 #[derive(Drop)]
@@ -65,39 +64,13 @@ impl Guest {
         })
     }
 
-    // Asks the device a line's call. The reply is the device's.
-    fn ask(&mut self, call: &MemberCall) -> Result<MemberReply, NoMemory>
-        ensures { IfOk result (Asks self.old self.new call.now) }
+    /// Asks the device. The reply is the device's.
+    pub fn ask(&mut self, call: &MemberCall) -> Result<Option<MemberReply>, NoMemory>
+        ensures { IfOk result (Asked self.old self.new call.now) }
     {
         let placed = self.member.apply(CALLER, call)?;
         self.msix = msix_after(self.msix, call, &placed.reply);
-        Ok(placed.reply)
-    }
-
-    // Performs a line that asks nothing of the device.
-    fn pass(&mut self, what: &What)
-        ensures { self.new ≡ record self.old { io = io_after self.old.io what.now } }
-    {
-        if let What::Io { on } = what {
-            self.io = *on;
-        }
-    }
-
-    // Performs a line. The reply is the device's, if the line asks it.
-    fn perform(&mut self, what: &What) -> Result<Option<MemberReply>, NoMemory>
-        requires { HasWidth what.now }
-        ensures { IfOk result (Performs self.old self.new what.now) }
-    {
-        match call_for(&self.bar, self.msix, self.io, what)? {
-            Some(call) => {
-                let reply = self.ask(&call)?;
-                Ok(Some(reply))
-            }
-            None => {
-                self.pass(what);
-                Ok(None)
-            }
-        }
+        Ok(Some(placed.reply))
     }
 
     /// Performs a line, and appends what the guest is shown of it.
@@ -126,7 +99,8 @@ fn push_shown(
     if line.who != GUEST {
         return Ok(());
     }
-    push_number(output, line.number)?;
+    push_number(output, u64::from(line.number))?;
+    output.push(b' ')?;
     push_words(output, bar, io, &line.what, reply)?;
     output.push(b'\n')
 }

@@ -6,8 +6,8 @@
 //! lines are.
 #![tactic(auto)]
 
-mod calls;
 mod guest;
+mod lines;
 mod transcript;
 mod words;
 

@@ -1,7 +1,5 @@
 //! Answers in words.
 ghost use Rattle.std.specs.Prelude.{◌≡◌, ◌++◌, ◌≤◌, codes, length, true, OnOk};
-ghost use Rattle.std.specs.Fmt.{decimal};
-ghost use Rattle.hex.specs.Hex.{encode_lower};
 ghost use Rattle.alone_run.specs.Lines.{halt_words, reply_words, ones, outside_words};
 ghost use Rattle.alone_run.specs.Kept.{told_words, words_for, HasWidth};
 
@@ -9,35 +7,8 @@ use board_script::What;
 use board_text::Bytes;
 use group_calls::{Halt, MemberReply};
 use io_bar::Bar;
-use itoa::Buffer;
 use std::alloc::AllocError as NoMemory;
-
-// How many bytes are turned into hex at once.
-const PART: usize = 128;
-
-// Appends a part in hex.
-fn push_part(output: &mut Bytes, part: &[u8]) -> Result<(), NoMemory>
-    requires { length part.now ≤ 128 }
-    ensures { OnOk result (output.new ≡ output.old ++ encode_lower part.now) }
-{
-    let mut digits = [0; 2 * PART];
-    let digits = &mut digits[..2 * part.len()];
-    hex::encode_to_slice(part, digits).unwrap();
-    output.extend(digits)
-}
-
-// Appends bytes in hex, each as two digits in lower case.
-fn push_hex(output: &mut Bytes, bytes: &[u8]) -> Result<(), NoMemory>
-    ensures { OnOk result (output.new ≡ output.old ++ encode_lower bytes.now) }
-{
-    let mut from = 0;
-    'parts: while from < bytes.len() {
-        let count = PART.min(bytes.len() - from);
-        push_part(output, &bytes[from..from + count])?;
-        from += count;
-    }
-    Ok(())
-}
+use text_out::push_hex;
 
 // Appends all ones for a read of so many bytes.
 fn push_ones(output: &mut Bytes, length: u32) -> Result<(), NoMemory>
@@ -103,15 +74,6 @@ fn push_outside(output: &mut Bytes, bar: &Bar, io: bool, what: &What) -> Result<
         }
         _ => output.extend(b"ok"),
     }
-}
-
-/// Appends a number and a space.
-pub(crate) fn push_number(output: &mut Bytes, number: u32) -> Result<(), NoMemory>
-    ensures { OnOk result (output.new ≡ output.old ++ decimal number ++ codes " ") }
-{
-    let mut digits = Buffer::new();
-    output.extend(digits.format(number).as_bytes())?;
-    output.push(b' ')
 }
 
 /// Appends the words for a line and the reply to it, if it asked the device.

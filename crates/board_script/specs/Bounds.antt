@@ -2,6 +2,8 @@
 use Rattle.std.specs.Prelude.{◌≡◌, ℕ, ◌+◌, ◌≤◌, ◌<◌, ◌⊎◌, true, List, length, Option, Some, None, IfSome}
 use Rattle.std.specs.List.{All, sum_by}
 use Rattle.hex.specs.Hex.{IsBytes}
+use Rattle.board_script.specs.declared.draft.Use.{Use}
+use Rattle.board_script.specs.declared.draft.Use.TheVariants as use_of
 use Rattle.board_script.specs.declared.script.Board.{Board}
 use Rattle.legacy_regs.specs.declared.device.Kind.{Kind}
 use Rattle.legacy_regs.specs.declared.device.Kind.TheVariants as kind
@@ -78,6 +80,11 @@ pub record IsScript (s : Whole) : Type 0 where
   pub lines : All (λ line. MayAsk s.board.queues s.board.workers s.guests line.who line.what) s.lines
   pub turns : All (IsTurns s.board.workers s.guests) s.turns
   pub scheduled : sum_by (λ t. t.count) s.turns ≤ turns_limit
+
+-- one guest, where it is alone
+abbrev pub IsServed : Use → Whole → Type 0
+IsServed use_of.Group s = Unit {0}
+IsServed use_of.Alone s = length s.guests ≡ 1
 
 -- what an actor may ask of what the lines so far say
 abbrev pub Allows : SoFar → Deed → Type 0

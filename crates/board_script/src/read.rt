@@ -5,7 +5,7 @@ ghost use Rattle.script_words.specs.Texts.{Reads};
 ghost use Rattle.script_words.specs.Values.{Steps};
 ghost use Rattle.board_script.specs.Limits.{turns_limit};
 ghost use Rattle.board_script.specs.SoFar.{has_begun, is_out_of_turn, nothing, scheduled};
-ghost use Rattle.board_script.specs.Bounds.{KeepsLimit, IsScript};
+ghost use Rattle.board_script.specs.Bounds.{KeepsLimit, IsScript, IsServed};
 ghost use Rattle.board_script.specs.Rows.{with_pair, with_pairs};
 ghost use Rattle.board_script.specs.Script.{breaks_setup as breaks_setup_of, has_room as has_room_of, with_board, with_guest, with_act, with_go, with_shape, with_form, with_text, with_lines, serves as serves_of, script_of};
 
@@ -216,6 +216,7 @@ fn read(alloc: Global, used: Use, text: &[u8]) -> Result<Script, ScriptFault>
     requires { length text.now < 2 ^ 32 - 1 }
     ensures value { Reads result (script_of used text.now) }
     ensures bounds { IfOk result IsScript }
+    ensures served { IfOk result (IsServed used) }
 {
     let draft = read_lines(alloc, used, text)?;
     let serves = serves(used, &draft);
@@ -253,6 +254,7 @@ pub fn read_alone(alloc: Global, text: &[u8]) -> Result<Script, ScriptFault>
     requires { length text.now < 2 ^ 32 - 1 }
     ensures value { Reads result (script_of Use.Alone text.now) }
     ensures bounds { IfOk result IsScript }
+    ensures alone { IfOk result (λ s. length s.guests ≡ 1) }
 {
     read(alloc, Use::Alone, text)
 }

@@ -141,7 +141,8 @@ impl Model for Script {
 }
 
 impl Script {
-    pub(crate) fn of(
+    /// The script of these parts, which keep to the bounds of scripts.
+    pub fn of(
         board: Board,
         guests: Vec<Setup>,
         lines: Vec<ActorLine>,

@@ -8,6 +8,8 @@ use Rattle.legacy_regs.specs.declared.device.Kind.TheVariants.{Block, Net}
 use Rattle.legacy_regs.specs.Fields.{common_size, queue_notify_field}
 use Rattle.io_bar.specs.declared.access.Access.{Access}
 use Rattle.io_bar.specs.declared.access.Access.TheVariants.{Read, Write}
+use Rattle.io_bar.specs.declared.access.Place.{Place}
+use Rattle.io_bar.specs.declared.access.Place.TheVariants.{Outside, Common, Device}
 use Rattle.io_bar.specs.declared.access.Route.{Route}
 use Rattle.io_bar.specs.declared.access.Route.TheVariants.{Command, Doorbell, Local}
 
@@ -41,6 +43,14 @@ rings_doorbell offset bytes = (offset == queue_notify_field.offset) && (length b
 -- the device-specific structure begins behind the common one, which is longer with MSI-X enabled: 4.1.4.10
 abbrev pub device_base : Bool → ℕ
 device_base msix = common_size msix
+
+-- where so many bytes from an offset on lie: with the host, or in a structure from an offset on
+
+abbrev pub place_behind : ℕ → ℕ → Place
+place_behind base offset = if nat_lt offset base then Common offset else Device (offset - base)
+
+abbrev pub place_of : Kind → Bool → Bool → ℕ → ℕ → Place
+place_of kind msix io offset count = if not io || nat_lt (bar_size kind) (offset + count) then Outside else place_behind (device_base msix) offset
 
 -- the command for a read: one of the common structure where it begins there, else one of the device-specific structure
 abbrev pub read_command : ℕ → ℕ → ℕ → LegacyCmd

@@ -21,3 +21,14 @@ pub enum Route {
     /// Nowhere: a read gives all ones, a write is ignored.
     Local,
 }
+
+/// Where bytes of the BAR lie. An offset counts from the beginning of the structure.
+#[derive(Clone, Copy, Debug, PartialEq, Eq)]
+pub enum Place {
+    /// With the host: I/O is disabled, or they pass the BAR.
+    Outside,
+    /// In the common structure, if they lie in it whole.
+    Common { offset: u8 },
+    /// In the device-specific structure, if they lie in it whole.
+    Device { offset: u8 },
+}

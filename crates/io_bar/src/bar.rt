@@ -1,10 +1,10 @@
 //! The emulated BAR of one member.
 ghost use Rattle.std.specs.Prelude.{◌≡◌, length, true};
 ghost use Rattle.byte_fields.specs.Places.{le16};
-ghost use Rattle.io_bar.specs.Route.{offset_of, count_of, is_local, route_of, is_port_width, bar_size as bar_size_of, device_base as device_base_of, read_command as read_command_of, write_command as write_command_of, passed_on as passed_on_of};
+ghost use Rattle.io_bar.specs.Route.{offset_of, count_of, place_of, is_local, route_of, is_port_width, bar_size as bar_size_of, device_base as device_base_of, read_command as read_command_of, write_command as write_command_of, passed_on as passed_on_of};
 ghost use Rattle.io_bar.specs.Configuration.{configuration_read};
 
-use crate::access::{Access, Route};
+use crate::access::{Access, Place, Route};
 use crate::configuration::{CONFIGURATION_SIZE, configuration};
 use admin_wire::LegacyCmd;
 use board_text::Piece;
@@ -139,6 +139,24 @@ impl Bar {
             Route::Local
         } else {
             passed_on(msix, access)
+        }
+    }
+
+    /// Where so many bytes from an offset of the BAR on lie, with MSI-X and I/O as they are for the guest: as `route` has it,
+    /// for an access that is no doorbell.
+    pub fn place(&self, msix: bool, io: bool, offset: u8, count: u32) -> Place
+        ensures { result ≡ place_of self.now msix io offset count }
+    {
+        if !io || bar_size(&self.kind) < u64::from(offset) + u64::from(count) {
+            return Place::Outside;
+        }
+        let base = device_base(msix);
+        if offset < base {
+            Place::Common { offset }
+        } else {
+            Place::Device {
+                offset: offset - base,
+            }
         }
     }
 

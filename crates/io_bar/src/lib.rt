@@ -9,5 +9,5 @@ mod access;
 mod bar;
 mod configuration;
 
-pub use access::{Access, Route};
+pub use access::{Access, Place, Route};
 pub use bar::Bar;

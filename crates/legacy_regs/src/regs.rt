@@ -331,7 +331,7 @@ fn initial_mac(kind: &Kind) -> [u8; 6]
 }
 
 /// Whether a write puts 0 at device status.
-fn is_reset_write(offset: u8, bytes: &[u8]) -> bool
+pub(crate) fn is_reset_write(offset: u8, bytes: &[u8]) -> bool
     ensures { result ≡ is_reset_write offset bytes.now }
 {
     byte_put(usize::from(DEVICE_STATUS.offset), offset, bytes) == Some(0)

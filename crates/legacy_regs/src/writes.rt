@@ -3,16 +3,16 @@ ghost use Rattle.std.specs.Prelude.{◌≡◌, ◌+◌, ◌≤◌, length};
 ghost use Rattle.legacy_regs.specs.Fields.{touches, queue_address_field};
 ghost use Rattle.legacy_regs.specs.Accesses.{is_reset_write as resets, notified_queue as notified};
 
-use crate::bytes::byte_put;
-use crate::fields::{DEVICE_STATUS, QUEUE_ADDRESS, QUEUE_NOTIFY};
+use crate::fields::{QUEUE_ADDRESS, QUEUE_NOTIFY};
 use crate::numbers::read_16;
+use crate::regs;
 use board_text::Piece;
 
 /// Whether the write is a reset: it puts 0 at device status (VIRTIO 1.3, 2.1).
 pub fn is_reset_write(offset: u8, bytes: &Piece) -> bool
     ensures { result ≡ resets offset bytes.now }
 {
-    byte_put(usize::from(DEVICE_STATUS.offset), offset, bytes.as_slice()) == Some(0)
+    regs::is_reset_write(offset, bytes.as_slice())
 }
 
 /// Whether a byte of the write is one of queue address (VIRTIO 1.3, 4.1.5.1.3.1).

@@ -6,10 +6,6 @@ pub OnOk-then : {T E P Q : Type 0} (r : Result T E) → OnOk r P → (P → Q) �
 OnOk-then (Ok value) holds then = then holds
 OnOk-then (Err error) holds then = tt
 
-pub IfOk-then : {T E : Type 0} {P Q : T → Type 0} (r : Result T E) → IfOk r P → ((value : T) → P value → Q value) → IfOk r Q
-IfOk-then (Ok value) holds then = then value holds
-IfOk-then (Err error) holds then = tt
-
 -- two facts, of which one is of the value
 pub both-then : {T E O : Type 0} {P Q : T → Type 0} (r : Result T E) → IfOk r P → OnOk r O → ((value : T) → P value → O → Q value) → IfOk r Q
 both-then (Ok value) holds also then = then value holds also

@@ -14,51 +14,11 @@ use Rattle.member_core.specs.declared.state.State.{State}
 use Rattle.member_core.specs.Queues.{first_facts, is_pending, queue_then, both_queues}
 use Rattle.member_core.specs.Holding.{holdings, holdings_then}
 
--- ---- after an entry
-
-abbrev pub raised_then : MemberEntry → ℕ → ℕ
-raised_then e mask = if takes_irqs e then 0 else bit_or (bit_raised e) mask
-
--- the entry stands at this place
-abbrev pub killed_then : ℕ → MemberEntry → Option ℕ → Option ℕ
-killed_then at e floor = or_else floor (if kills e then Some (at + 1) else None)
-
--- the state after an entry at this place, before which this queue was selected; but for the device, which the call itself changes
-abbrev pub noted : ℕ → ℕ → MemberEntry → State → State
-noted at selected e s = record s {
-  queues = queue_then s.device.made.kind 0 selected e (slice_index_or s.queues 0 first_facts) ∷ queue_then s.device.made.kind 1 selected e (slice_index_or s.queues 1 first_facts) ∷ [];
-  raised = raised_then e s.raised;
-  killed = killed_then at e s.killed;
-}
-
 -- ---- what is kept
-
--- these facts are what the state tells
-pub record AreTold (s : State) (f : Facts) : Type 0 where
-  pub registers : f.registers ≡ s.device.registers
-  pub waiting : f.waiting ≡ s.device.waiting
-  pub position : (q : ℕ) → q < 2 → f.position q ≡ (slice_index_or s.queues q first_facts).position
-  pub pending : (q : ℕ) → q < 2 → f.pending q ≡ is_pending (slice_index_or s.queues q first_facts)
-  pub raised : f.raised ≡ s.raised
 
 -- a member that takes frames has let no more go than came
 abbrev pub LeavesFew : MemberMade → List MemberEntry → Type 0
 LeavesFew made run = receives made.kind 0 ≡ true → count leaves_backlog run ≤ length (arrivals run)
-
--- what a step of each queue does, where these facts are told
-abbrev pub does : State → Facts → ℕ → Outcome
-does s f q = outcome s.device.made s.device.memory s.device.disk f q
-
--- the answer of a member that lives, and of any
-abbrev pub living_reply : State → Facts → MemberCall → MemberReply
-living_reply s f call = living_answer s.device.made f s.device.memory s.device.disk call
-
-abbrev pub reply_of : State → Facts → MemberCall → MemberReply
-reply_of s f call = answer_by s.device.made s.killed f s.device.memory s.device.disk call
-
--- the state after a call and its reply, of which just the device changes
-abbrev pub left_by_call : State → Facts → MemberCall → MemberReply → State
-left_by_call s f call reply = record s { device = holdings_then (does s f) call reply s.device }
 
 -- the state is what the history says
 pub record Stands (made : MemberMade) (s : State) (h : List MemberEntry) : Type 0 where
@@ -73,3 +33,45 @@ pub record Keeps (s : State) (h : List MemberEntry) : Type 0 where
   pub stands : Stands s.device.made s h
   pub legal : IsLegalMember s.device.made h
   pub most : length h ≤ history_limit
+
+-- ---- a call: the reply, and the device after it
+
+-- these facts are what the state tells
+pub record AreTold (s : State) (f : Facts) : Type 0 where
+  pub registers : f.registers ≡ s.device.registers
+  pub waiting : f.waiting ≡ s.device.waiting
+  pub position : (q : ℕ) → q < 2 → f.position q ≡ (slice_index_or s.queues q first_facts).position
+  pub pending : (q : ℕ) → q < 2 → f.pending q ≡ is_pending (slice_index_or s.queues q first_facts)
+  pub raised : f.raised ≡ s.raised
+
+-- what a step of each queue does, where these facts are told
+abbrev pub does : State → Facts → ℕ → Outcome
+does s f q = outcome s.device.made s.device.memory s.device.disk f q
+
+-- the reply of a member that lives, and of any
+abbrev pub living_reply : State → Facts → MemberCall → MemberReply
+living_reply s f call = living_answer s.device.made f s.device.memory s.device.disk call
+
+abbrev pub reply_of : State → Facts → MemberCall → MemberReply
+reply_of s f call = answer_by s.device.made s.killed f s.device.memory s.device.disk call
+
+-- the state after a call and its reply, of which just the device changes
+abbrev pub left_by_call : State → Facts → MemberCall → MemberReply → State
+left_by_call s f call reply = record s { device = holdings_then (does s f) call reply s.device }
+
+-- ---- the entry: what is kept beside the device, after it
+
+abbrev pub raised_then : MemberEntry → ℕ → ℕ
+raised_then e mask = if takes_irqs e then 0 else bit_or (bit_raised e) mask
+
+-- the entry stands at this place
+abbrev pub killed_then : ℕ → MemberEntry → Option ℕ → Option ℕ
+killed_then at e floor = or_else floor (if kills e then Some (at + 1) else None)
+
+-- the state after an entry at this place, before which this queue was selected
+abbrev pub noted : ℕ → ℕ → MemberEntry → State → State
+noted at selected e s = record s {
+  queues = queue_then s.device.made.kind 0 selected e (slice_index_or s.queues 0 first_facts) ∷ queue_then s.device.made.kind 1 selected e (slice_index_or s.queues 1 first_facts) ∷ [];
+  raised = raised_then e s.raised;
+  killed = killed_then at e s.killed;
+}

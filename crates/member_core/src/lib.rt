@@ -10,4 +10,4 @@ mod member;
 mod queues;
 mod state;
 
-pub use member::Member;
+pub use member::{Member, members_cross_threads};

@@ -97,3 +97,10 @@ impl Serial for Member {
         self.log.entry(at)
     }
 }
+
+fn crosses<T: Send + Sync>() {}
+
+/// A member may be sent to a thread, and shared by threads.
+pub fn members_cross_threads() {
+    crosses::<Member>();
+}

@@ -1,4 +1,4 @@
-use Rattle.std.proofs.Common.{◌+◌, ◌∙◌, [], ◌∷◌, ◌++◌, List, ℕ, refl, sym, ap, rules, arith}
+use Rattle.std.proofs.Common.{List, ℕ, rules}
 use Rattle.group_calls.specs.declared.member.MemberCall.TheVariants.{Kill}
 use Rattle.admin_run.specs.Group.{MemberCell, called, floor_after_kill}
 use Rattle.admin_run.proofs.Members.{call_one, map_next}

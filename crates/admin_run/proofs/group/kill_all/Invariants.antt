@@ -1,4 +1,4 @@
-use Rattle.std.proofs.Common.{◌≡◌, ◌++◌, length, map, take, drop}
+use Rattle.std.proofs.Common.{◌≡◌, ◌++◌, map, take, drop}
 use Rattle.group_calls.specs.declared.member.MemberCall.TheVariants.{Kill}
 use Rattle.admin_run.specs.Group.{called, floor_after_kill}
 use Rattle.admin_run.proofs.group.kill_all.Given as goal

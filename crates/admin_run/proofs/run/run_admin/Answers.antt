@@ -1,4 +1,4 @@
-use Rattle.std.proofs.Common.{◌+◌, ◌∙◌, ◌++◌, List, ℕ, refl, sym, ap, drop, append_assoc}
+use Rattle.std.proofs.Common.{◌+◌, ◌∙◌, ◌++◌, List, ℕ, sym, ap, drop, append_assoc}
 use Rattle.admin_script.specs.declared.line.AdminLine.{AdminLine}
 use Rattle.admin_run.specs.Group.{Group, after_line}
 use Rattle.admin_run.specs.Answers.{answer_to, answers}

@@ -1,4 +1,4 @@
-use Rattle.std.proofs.Common.{◌+◌, ◌∙◌, refl, sym, ap, drop, codes, rules, subst}
+use Rattle.std.proofs.Common.{◌+◌, drop, codes}
 use Rattle.alone_run.proofs.Performing.{line_shown, line_at}
 use Rattle.alone_run.proofs.transcript.run_alone.Goals as goal
 

@@ -1,4 +1,4 @@
-use Rattle.std.proofs.Common.{length, drop, ◌≤◌, codes}
+use Rattle.std.proofs.Common.{drop, codes}
 use Rattle.alone_run.specs.Kept.{SoFar}
 use Rattle.alone_run.proofs.transcript.run_alone.Given as goal
 

@@ -1,4 +1,4 @@
-use Rattle.std.proofs.Common.{refl, sym, ap, ◌∙◌, rules}
+use Rattle.std.proofs.Common.{refl, sym, ap, ◌∙◌}
 use Rattle.group_calls.specs.MemberRegisters.{is_msix}
 use Rattle.alone_run.proofs.guest.Guest.ask.Goals as goal
 

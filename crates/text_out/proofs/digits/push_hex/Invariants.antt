@@ -1,0 +1,13 @@
+use Rattle.std.proofs.Common.{◌≡◌, ◌≤◌, ◌++◌, ◌-◌, length, drop}
+use Rattle.hex.specs.Hex.{encode_lower}
+use Rattle.text_out.proofs.digits.push_hex.Given as goal
+
+-- what was appended and the hex of what is left are the hex of all
+abbrev pub invariant-parts : goal.invariant-parts
+invariant-parts l = record {
+  within : l.from ≤ length l.bytes;
+  so_far : l.output ++ encode_lower (drop l.from l.bytes) ≡ l.fn.output ++ encode_lower l.bytes;
+}
+
+abbrev pub decreases-parts : goal.decreases-parts
+decreases-parts l = length l.bytes - l.from

@@ -1,0 +1,43 @@
+//! Digits.
+ghost use Rattle.std.specs.Prelude.{◌≡◌, ◌++◌, ◌≤◌, length, OnOk};
+ghost use Rattle.std.specs.Fmt.{decimal};
+ghost use Rattle.hex.specs.Hex.{encode_lower};
+
+use board_text::Bytes;
+use itoa::Buffer;
+use std::alloc::AllocError as NoMemory;
+
+// How many bytes are turned into hex at once.
+const PART: usize = 64;
+
+// Appends a part in hex.
+fn push_part(output: &mut Bytes, part: &[u8]) -> Result<(), NoMemory>
+    requires { length part.now ≤ 64 }
+    ensures { OnOk result (output.new ≡ output.old ++ encode_lower part.now) }
+{
+    let mut digits = [0; 2 * PART];
+    let digits = &mut digits[..2 * part.len()];
+    hex::encode_to_slice(part, digits).unwrap();
+    output.extend(digits)
+}
+
+/// Appends bytes in hex, two digits each, in lower case. After `NoMemory` a front of the digits may be there.
+pub fn push_hex(output: &mut Bytes, bytes: &[u8]) -> Result<(), NoMemory>
+    ensures { OnOk result (output.new ≡ output.old ++ encode_lower bytes.now) }
+{
+    let mut from = 0;
+    'parts: while from < bytes.len() {
+        let count = PART.min(bytes.len() - from);
+        push_part(output, &bytes[from..from + count])?;
+        from += count;
+    }
+    Ok(())
+}
+
+/// Appends a number in decimal, without a superfluous zero. After `NoMemory` the bytes are as they were.
+pub fn push_number(output: &mut Bytes, number: u64) -> Result<(), NoMemory>
+    ensures { OnOk result (output.new ≡ output.old ++ decimal number) }
+{
+    let mut digits = Buffer::new();
+    output.extend(digits.format(number).as_bytes())
+}
