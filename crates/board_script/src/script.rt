@@ -142,12 +142,7 @@ impl Model for Script {
 
 impl Script {
     /// The script of these parts, which keep to the bounds of scripts.
-    pub fn of(
-        board: Board,
-        guests: Vec<Setup>,
-        lines: Vec<ActorLine>,
-        turns: Vec<Turns>,
-    ) -> Script
+    pub fn of(board: Board, guests: Vec<Setup>, lines: Vec<ActorLine>, turns: Vec<Turns>) -> Script
         requires { IsScript (record { board = board; guests = guests.items; lines = lines.items; turns = turns.items }) }
         ensures value { result ≡ record { board = board; guests = guests.items; lines = lines.items; turns = turns.items } }
         ensures bounds { IsScript result }

@@ -1,5 +1,7 @@
 //! At most 256 bytes, which take no memory.
-ghost use Rattle.std.specs.Prelude.{◌≡◌, ◌+◌, ◌<◌, ◌≤◌, [], ◌∷◌, ◌++◌, length, take};
+ghost use Rattle.std.specs.Prelude.{◌≡◌, ◌*◌, ◌+◌, ◌<◌, ◌≤◌, [], ◌∷◌, ◌++◌, length, take};
+ghost use Rattle.hex.specs.Hex.{decode_of};
+ghost use Rattle.board_text.specs.Hex.{FillsPiece, FillsWith, hex_piece, is_piece_length};
 
 use arrayvec::ArrayVec;
 use std::marker::Model;
@@ -21,6 +23,22 @@ impl Model for Piece {
     ghost view = { λ p. p.items.items };
 
     ghost invariant = { λ p. length p.items.items ≤ 256 };
+}
+
+// Whether a text of so many digits may spell a piece.
+fn is_length(digits: usize) -> bool
+    ensures { result ≡ is_piece_length digits }
+{
+    2 <= digits && digits <= 2 * PIECE_LIMIT && digits % 2 == 0
+}
+
+// Puts the bytes that a text spells into as many, and says whether it spells them.
+fn fill_hex(text: &[u8], out: &mut [u8]) -> bool
+    requires { length text.now ≡ 2 * length out.old }
+    ensures length { length out.new ≡ length out.old }
+    ensures bytes { FillsWith result out.new (decode_of text.now) }
+{
+    hex::decode_to_slice(text, out).is_ok()
 }
 
 impl Piece {
@@ -79,6 +97,19 @@ impl Piece {
         ensures { self.new ≡ take most self.old }
     {
         self.items.truncate(most as usize);
+    }
+
+    /// Takes on the bytes that the text spells, two hex digits of either case a byte, where there are 1 to 256,
+    /// and says whether it does. Where it doesn't, some bytes are held.
+    pub fn read_hex(&mut self, text: &[u8]) -> bool
+        ensures { FillsPiece result self.new (hex_piece text.now) }
+    {
+        if !is_length(text.len()) {
+            return false;
+        }
+        self.items = ArrayVec::from_array_in((), [0; PIECE_LIMIT]);
+        self.items.truncate(text.len() / 2);
+        fill_hex(text, self.items.as_mut_slice())
     }
 
     /// The bytes, lent. There are at most 256.

@@ -11,3 +11,4 @@ pub mod Storage
 pub mod Member
 pub mod Lone
 pub mod Asks
+pub mod Kept

@@ -92,17 +92,45 @@ pub enum MemberReply {
 }
 
 impl MemberCall {
-    /// The same call once more.
-    pub fn copy(&self) -> Result<MemberCall, NoMemory>
-        ensures { IfOk result (λ call. call ≡ self.now) }
+    ghost use Rattle.group_calls.specs.Kept.{held_bytes};
+
+    /// The bytes that lie outside the call, once more: those for the guest's memory, or a frame. `None`, which takes no
+    /// memory, of a call without.
+    pub fn copy_bytes(&self) -> Result<Option<Bytes>, NoMemory>
+        ensures { IfOk result (λ bytes. bytes ≡ held_bytes self.now) }
     {
-        Ok(match self {
+        match self {
+            MemberCall::MemWrite { bytes, .. } => Ok(Some(bytes.copy()?)),
+            MemberCall::Arrive { frame } => Ok(Some(frame.copy()?)),
+            _ => Ok(None),
+        }
+    }
+
+    /// The same call with these bytes, which are those that lie outside it. This takes no memory.
+    pub fn with_bytes(&self, bytes: Option<Bytes>) -> MemberCall
+        requires { bytes ≡ held_bytes self.now }
+        ensures { result ≡ self.now }
+    {
+        // A read is made in one step, so that nothing as large as a write's data is moved.
+        match self {
+            MemberCall::Act(LegacyCmd::CommonRead { offset, length }) => MemberCall::Act(
+                LegacyCmd::CommonRead {
+                    offset: *offset,
+                    length: *length,
+                },
+            ),
+            MemberCall::Act(LegacyCmd::DevRead { offset, length }) => MemberCall::Act(
+                LegacyCmd::DevRead {
+                    offset: *offset,
+                    length: *length,
+                },
+            ),
             MemberCall::Act(command) => MemberCall::Act(command.copy()),
             MemberCall::Notify { queue } => MemberCall::Notify { queue: *queue },
             MemberCall::Msix { on } => MemberCall::Msix { on: *on },
-            MemberCall::MemWrite { addr, bytes } => MemberCall::MemWrite {
+            MemberCall::MemWrite { addr, .. } => MemberCall::MemWrite {
                 addr: *addr,
-                bytes: bytes.copy()?,
+                bytes: bytes.unwrap(),
             },
             MemberCall::MemRead { addr, length } => MemberCall::MemRead {
                 addr: *addr,
@@ -110,12 +138,20 @@ impl MemberCall {
             },
             MemberCall::TakeIrqs => MemberCall::TakeIrqs,
             MemberCall::Step { queue } => MemberCall::Step { queue: *queue },
-            MemberCall::Arrive { frame } => MemberCall::Arrive {
-                frame: frame.copy()?,
+            MemberCall::Arrive { .. } => MemberCall::Arrive {
+                frame: bytes.unwrap(),
             },
             MemberCall::Flr => MemberCall::Flr,
             MemberCall::Kill => MemberCall::Kill,
-        })
+        }
+    }
+
+    /// The same call once more.
+    pub fn copy(&self) -> Result<MemberCall, NoMemory>
+        ensures { IfOk result (λ call. call ≡ self.now) }
+    {
+        let bytes = self.copy_bytes()?;
+        Ok(self.with_bytes(bytes))
     }
 }
 

@@ -1,7 +1,5 @@
 //! The registers of one device.
-ghost use Rattle.std.specs.Prelude.{◌≡◌, ◌≤◌, ◌+◌, length};
-ghost use Rattle.byte_fields.specs.Places.{bytes_at};
-ghost use Rattle.arrayvec.specs.ArrayVec.{array_vec_len};
+ghost use Rattle.std.specs.Prelude.{◌≡◌};
 ghost use Rattle.legacy_regs.specs.Registers.{initial_mac};
 ghost use Rattle.legacy_regs.specs.Accesses.{is_reset_write};
 ghost use Rattle.legacy_regs.specs.Kept.{kept_mac};
@@ -11,6 +9,7 @@ use crate::accesses::{Effect, Field, Space};
 use crate::bytes::{byte_put, put};
 use crate::device::{Kind, queue_count};
 use crate::features::device_features;
+use crate::field_bytes::FieldBytes;
 use crate::fields::{
     DEVICE_STATUS, ISR, MAC, QUEUE_ADDRESS, QUEUE_NOTIFY, WRITEBACK, is_refused_read,
     is_refused_write,
@@ -49,7 +48,7 @@ impl Regs {
     ghost use Rattle.legacy_regs.specs.declared.accesses.Space.TheVariants.{Common};
     ghost use Rattle.legacy_regs.specs.Fields.{common_size, device_size, structure_size};
     ghost use Rattle.legacy_regs.specs.Registers.{initial_registers, reset_of, flr_of, queue_count, queue_size, queue_address, queue_vector, page_number, selected, common_structure, device_structure, structure};
-    ghost use Rattle.legacy_regs.specs.Accesses.{read_answer, HasBytes, after_read, write_answer, after_write, notifies_in_part, write_effect, common_effect, write_common, write_device};
+    ghost use Rattle.legacy_regs.specs.Accesses.{read_answer, HasBytes, read_structure, after_read, write_answer, after_write, notifies_in_part, write_effect, common_effect, write_common, write_device};
     ghost use Rattle.legacy_regs.specs.Interrupts.{queue_irq, raise_queue};
 
     /// The registers of a new device, with MSI-X disabled. The initial values are those after a reset (VIRTIO 1.3, 2.4),
@@ -89,14 +88,23 @@ impl Regs {
 
     /// What a read of `length` bytes from `offset` on would answer, counted in bytes from the structure's start. Nothing
     /// changes. Exactly where the read has no byte or isn't wholly inside one field, the answer is Field (of this project).
-    pub fn peek(&self, space: Space, offset: u8, length: u32) -> Result<Piece, Field>
+    pub fn peek(&self, space: Space, offset: u8, length: u32) -> Result<FieldBytes, Field>
         ensures answer { result ≡ read_answer self.now space offset length }
         ensures bytes { HasBytes length result }
     {
         if is_refused_read(&self.kind, self.msix, space, offset, length) {
             return Err(Field);
         }
-        Ok(part_of(&self.structure(space), offset, length))
+        Ok(FieldBytes::new(self.structure(space), offset, length))
+    }
+
+    /// What a read that isn't refused does to the registers: one of ISR clears it (VIRTIO 1.3, 4.1.4.5).
+    pub fn note_read(&mut self, space: Space, offset: u8, length: u32)
+        ensures { self.new ≡ record self.old { registers = read_structure space offset length self.old.registers } }
+    {
+        if space == Space::Common && ISR.meets(offset, length) {
+            self.state.isr = 0;
+        }
     }
 
     /// Reads `length` bytes from `offset` on, counted in bytes from the structure's start. A read of ISR clears it
@@ -110,11 +118,9 @@ impl Regs {
         if is_refused_read(&self.kind, self.msix, space, offset, length) {
             return Err(Field);
         }
-        let bytes = part_of(&self.structure(space), offset, length);
-        if space == Space::Common && ISR.meets(offset, length) {
-            self.state.isr = 0;
-        }
-        Ok(bytes)
+        let bytes = FieldBytes::new(self.structure(space), offset, length);
+        self.note_read(space, offset, length);
+        Ok(Piece::from_slice(bytes.as_slice()))
     }
 
     /// Writes these bytes from `offset` on, counted in bytes from the structure's start, and says what that does beyond
@@ -335,14 +341,4 @@ pub(crate) fn is_reset_write(offset: u8, bytes: &[u8]) -> bool
     ensures { result ≡ is_reset_write offset bytes.now }
 {
     byte_put(usize::from(DEVICE_STATUS.offset), offset, bytes) == Some(0)
-}
-
-/// So many bytes of a structure from an offset on.
-fn part_of(image: &Image, offset: u8, count: u32) -> Piece
-    requires { offset + count ≤ array_vec_len image.now }
-    ensures bytes { result ≡ bytes_at offset count image.now.items }
-    ensures count { length result ≡ count }
-{
-    let start = usize::from(offset);
-    Piece::from_slice(&image.as_slice()[start..start + count as usize])
 }

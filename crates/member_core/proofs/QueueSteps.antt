@@ -1,15 +1,19 @@
 -- What a run says of a queue, after one entry more.
 use Rattle.std.proofs.Common.{◌≡◌, ℕ, ◌+◌, ◌%◌, Bool, true, false, cond, List, [], ◌∷◌, refl, sym, ap, ◌∙◌, arith}
-use Rattle.std.specs.Prelude.{◌||◌}
+use Rattle.std.specs.Prelude.{◌==◌, ◌||◌, ◌&&◌, length, Option, None, Some, slice_index_or}
 use Rattle.std.specs.List.{list_any}
 use Rattle.history.specs.Look.{count, after_latest}
+use Rattle.admin_wire.specs.declared.command.LegacyCmd.TheVariants.{CommonWrite, CommonRead, DevWrite, DevRead, Info}
 use Rattle.legacy_regs.specs.declared.device.Kind.{Kind}
-use Rattle.group_calls.specs.MemberEntries.{MemberEntry, is_reset, since_reset}
+use Rattle.group_calls.specs.declared.member.MemberCall.{MemberCall}
+use Rattle.group_calls.specs.declared.member.MemberCall.TheVariants.{Act, Notify, Msix, MemWrite, MemRead, TakeIrqs, Step, Arrive, Flr, Kill}
+use Rattle.group_calls.specs.declared.member.MemberReply.{MemberReply}
+use Rattle.group_calls.specs.MemberEntries.{MemberEntry, is_done, is_zero_status, is_reset, since_reset}
 use Rattle.group_calls.specs.MemberRegisters.{selected}
-use Rattle.group_calls.specs.MemberQueues.{moves, fresh, is_served, is_empty, is_halt, is_step, notifies}
+use Rattle.group_calls.specs.MemberQueues.{receives, is_address_write, moves, fresh, is_served, is_empty, is_halt, is_step, notifies}
 use Rattle.group_calls.proofs.RegisterSteps.{goes_on as run_goes_on, ends as run_ends}
 use Rattle.member_core.specs.declared.queues.QueueFacts.{QueueFacts}
-use Rattle.member_core.specs.Queues.{queue_facts, first_facts, goes_on, queue_then}
+use Rattle.member_core.specs.Queues.{tells_queues, queue_facts, first_facts, goes_on, queue_then, queues_then}
 
 -- what is kept of a queue, by the entries since it began afresh
 abbrev facts_of : Kind → ℕ → List MemberEntry → QueueFacts
@@ -62,3 +66,46 @@ queue_facts-more kind q e past = go (is_reset e) refl (moves q e (since_reset pa
         ∙ ap (facts_of kind q) (fresh_goes_on q e (since_reset past) moved)
         ∙ one_more kind q e (fresh (since_reset past) q)
         ∙ sym (λ i. cond (r i || moved i) first_facts (goes_on kind q e (queue_facts kind (since_reset past) q)))
+
+-- an entry that is no write, no step and no notification, by whether it is done, whether the queue is selected, and whether it receives
+still : (done selected receiving : Bool) (f : QueueFacts)
+    → cond ((is_zero_status (cond done None None) || (done && false)) || (selected && is_address_write (cond done None None))) first_facts
+    (record { position = f.position; notified = ((done && false) || (receiving && false)) || f.notified; halted = f.halted }) ≡ f
+still true true true f = refl
+still true true false f = refl
+still true false true f = refl
+still true false false f = refl
+still false true true f = refl
+still false true false f = refl
+still false false true f = refl
+still false false false f = refl
+
+-- a call that tells a queue nothing leaves its facts, whatever the reply
+pub untold : (kind : Kind) (q selected who : ℕ) (call : MemberCall) (reply : MemberReply) (f : QueueFacts) → tells_queues call ≡ false
+    → queue_then kind q selected (record { who = who; call = call; reply = reply }) f ≡ f
+untold kind q selected who (Act (CommonWrite offset bytes)) reply f quiet = cc
+untold kind q selected who (Act (CommonRead offset count)) reply f quiet = still (is_done reply) (q == selected) (receives kind q) f
+untold kind q selected who (Act (DevWrite offset bytes)) reply f quiet = still (is_done reply) (q == selected) (receives kind q) f
+untold kind q selected who (Act (DevRead offset count)) reply f quiet = still (is_done reply) (q == selected) (receives kind q) f
+untold kind q selected who (Act Info) reply f quiet = still (is_done reply) (q == selected) (receives kind q) f
+untold kind q selected who (Notify queue) reply f quiet = cc
+untold kind q selected who (Msix on) reply f quiet = still (is_done reply) (q == selected) (receives kind q) f
+untold kind q selected who (MemWrite addr bytes) reply f quiet = still (is_done reply) (q == selected) (receives kind q) f
+untold kind q selected who (MemRead addr count) reply f quiet = still (is_done reply) (q == selected) (receives kind q) f
+untold kind q selected who TakeIrqs reply f quiet = still (is_done reply) (q == selected) (receives kind q) f
+untold kind q selected who (Step queue) reply f quiet = cc
+untold kind q selected who (Arrive frame) reply f quiet = cc
+untold kind q selected who Flr reply f quiet = cc
+untold kind q selected who Kill reply f quiet = still (is_done reply) (q == selected) (receives kind q) f
+
+two_items : {Item : Type 0} (items : List Item) (d : Item) → length items ≡ 2 → items ≡ slice_index_or items 0 d ∷ slice_index_or items 1 d ∷ []
+two_items [] d two = absurd (omega arith)
+two_items (a ∷ []) d two = absurd (omega arith)
+two_items (a ∷ b ∷ []) d two = refl
+two_items (a ∷ b ∷ c ∷ items) d two = absurd (omega arith)
+
+pub both_untold : (kind : Kind) (selected who : ℕ) (call : MemberCall) (reply : MemberReply) (queues : List QueueFacts) → length queues ≡ 2 → tells_queues call ≡ false
+    → queues ≡ queues_then kind selected (record { who = who; call = call; reply = reply }) queues
+both_untold kind selected who call reply queues two quiet =
+    two_items queues first_facts two
+    ∙ sym (λ i. untold kind 0 selected who call reply (slice_index_or queues 0 first_facts) quiet i ∷ untold kind 1 selected who call reply (slice_index_or queues 1 first_facts) quiet i ∷ [])

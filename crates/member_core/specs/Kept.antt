@@ -1,9 +1,10 @@
 -- What a member keeps, as equations over its history. Of this project.
-use Rattle.std.specs.Prelude.{◌≡◌, ℕ, ◌+◌, ◌<◌, ◌≤◌, true, List, [], ◌∷◌, length, bit_or, slice_index_or, Option, Some, None, if◌then◌else◌}
+use Rattle.std.specs.Prelude.{◌≡◌, ℕ, ◌+◌, ◌<◌, ◌≤◌, Bool, true, false, List, length, bit_or, slice_index_or, Option, Some, None, if◌then◌else◌}
 use Rattle.history.specs.Limits.{history_limit}
 use Rattle.history.specs.Look.{count, or_else}
 use Rattle.group_calls.specs.declared.member.MemberMade.{MemberMade}
 use Rattle.group_calls.specs.declared.member.MemberCall.{MemberCall}
+use Rattle.group_calls.specs.declared.member.MemberCall.TheVariants.{Act}
 use Rattle.group_calls.specs.declared.member.MemberReply.{MemberReply}
 use Rattle.group_calls.specs.MemberEntries.{MemberEntry, since_reset}
 use Rattle.group_calls.specs.MemberQueues.{receives, arrivals, leaves_backlog, bit_raised, takes_irqs, raised}
@@ -11,7 +12,7 @@ use Rattle.group_calls.specs.Facts.{Facts}
 use Rattle.group_calls.specs.Steps.{Outcome, outcome}
 use Rattle.group_calls.specs.Member.{kills, killed, living_answer, answer_by, IsLegalMember}
 use Rattle.member_core.specs.declared.state.State.{State}
-use Rattle.member_core.specs.Queues.{first_facts, is_pending, queue_then, both_queues}
+use Rattle.member_core.specs.Queues.{first_facts, is_pending, both_queues, queues_then}
 use Rattle.member_core.specs.Holding.{holdings, holdings_then}
 
 -- ---- what is kept
@@ -48,6 +49,10 @@ pub record AreTold (s : State) (f : Facts) : Type 0 where
 abbrev pub does : State → Facts → ℕ → Outcome
 does s f q = outcome s.device.made s.device.memory s.device.disk f q
 
+abbrev pub is_access : MemberCall → Bool
+is_access (Act command) = true
+is_access _ = false
+
 -- the reply of a member that lives, and of any
 abbrev pub living_reply : State → Facts → MemberCall → MemberReply
 living_reply s f call = living_answer s.device.made f s.device.memory s.device.disk call
@@ -71,7 +76,7 @@ killed_then at e floor = or_else floor (if kills e then Some (at + 1) else None)
 -- the state after an entry at this place, before which this queue was selected
 abbrev pub noted : ℕ → ℕ → MemberEntry → State → State
 noted at selected e s = record s {
-  queues = queue_then s.device.made.kind 0 selected e (slice_index_or s.queues 0 first_facts) ∷ queue_then s.device.made.kind 1 selected e (slice_index_or s.queues 1 first_facts) ∷ [];
+  queues = queues_then s.device.made.kind selected e s.queues;
   raised = raised_then e s.raised;
   killed = killed_then at e s.killed;
 }

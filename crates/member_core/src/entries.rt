@@ -4,7 +4,7 @@ ghost use Rattle.legacy_regs.specs.declared.accesses.Space.TheVariants.{Common};
 ghost use Rattle.group_calls.specs.MemberEntries.{is_done, is_reset, done_write};
 ghost use Rattle.group_calls.specs.MemberQueues.{is_address_write, rings, receives, notifies, bit_raised, takes_irqs};
 ghost use Rattle.group_calls.specs.Member.{kills, is_memory_call};
-ghost use Rattle.member_core.specs.Queues.{begins};
+ghost use Rattle.member_core.specs.Queues.{tells_queues, begins};
 ghost use Rattle.member_core.specs.Vectors.{HasSmallVector};
 
 use admin_wire::LegacyCmd;
@@ -18,6 +18,20 @@ pub(crate) fn is_memory_call(call: &MemberCall) -> bool
     matches!(
         call,
         MemberCall::MemWrite { .. } | MemberCall::MemRead { .. }
+    )
+}
+
+/// Whether a call may change what is kept of a queue.
+pub(crate) fn tells_queues(call: &MemberCall) -> bool
+    ensures { result ≡ tells_queues call.now }
+{
+    matches!(
+        call,
+        MemberCall::Act(LegacyCmd::CommonWrite { .. })
+            | MemberCall::Notify { .. }
+            | MemberCall::Step { .. }
+            | MemberCall::Arrive { .. }
+            | MemberCall::Flr
     )
 }
 

@@ -76,11 +76,11 @@ impl Serial for Member {
             return Err(NoMemory);
         }
         self.log.reserve(1)?;
-        let asked = call.copy()?;
+        let bytes = call.copy_bytes()?;
         let answer = self.state.answer(at, call)?;
         self.log.put(Entry {
             who,
-            call: asked,
+            call: call.with_bytes(bytes),
             reply: answer.kept,
         });
         Ok(Placed {

@@ -2,7 +2,7 @@
 ghost use Rattle.std.specs.Prelude.{◌≡◌, true};
 ghost use Rattle.member_core.specs.Replies.{has_no_bytes};
 
-use crate::entries::{bit_raised, is_memory_call, kills, takes_irqs};
+use crate::entries::{bit_raised, is_memory_call, kills, takes_irqs, tells_queues};
 use crate::queues::QueueFacts;
 use group_calls::{MemberCall, MemberReply};
 use member_device::{Answer, Device};
@@ -19,7 +19,7 @@ pub(crate) struct State {
 }
 
 impl State {
-    ghost use Rattle.std.specs.Prelude.{◌≡◌, ◌<◌, ◌≤◌, ◌^◌, ℕ, [], ◌∷◌, List, length, Option, None, IfOk, OnOk, OnErr, slice_index_or};
+    ghost use Rattle.std.specs.Prelude.{◌≡◌, ◌<◌, ◌≤◌, ◌^◌, ℕ, false, [], ◌∷◌, List, length, Option, None, IfOk, OnOk, OnErr, slice_index_or};
     ghost use Rattle.history.specs.Limits.{history_limit};
     ghost use Rattle.group_calls.specs.declared.member.MemberMade.{MemberMade};
     ghost use Rattle.group_calls.specs.Facts.{Facts};
@@ -27,9 +27,9 @@ impl State {
     ghost use Rattle.group_calls.specs.Steps.{outcome_reply};
     ghost use Rattle.group_calls.specs.Member.{member_answer};
     ghost use Rattle.member_device.specs.Device.{left_by_step};
-    ghost use Rattle.member_core.specs.Queues.{first_facts};
+    ghost use Rattle.member_core.specs.Queues.{first_facts, queues_then};
     ghost use Rattle.member_core.specs.Vectors.{AreSmall, HasSmallVector};
-    ghost use Rattle.member_core.specs.Kept.{noted, AreTold, does, living_reply, reply_of, left_by_call, Stands};
+    ghost use Rattle.member_core.specs.Kept.{noted, AreTold, does, is_access, living_reply, reply_of, left_by_call, Stands};
 
     /// Of a member with this device and no history.
     pub(crate) fn new(device: Device) -> State
@@ -73,6 +73,20 @@ impl State {
     {
         match call {
             MemberCall::Act(command) => self.device.act(command),
+            _ => self.other_answer(call),
+        }
+    }
+
+    /// The same for a call that is no register access.
+    fn other_answer(&mut self, call: &MemberCall) -> Result<Answer, NoMemory>
+        requires { is_access call.now ≡ false }
+        ensures told { (f : Facts) → AreTold self.old f → IfOk result (λ answer. answer.told ≡ living_reply self.old f call.now) }
+        ensures kept { IfOk result (λ answer. answer.kept ≡ answer.told) }
+        ensures left { (f : Facts) → AreTold self.old f → IfOk result (λ answer. self.new ≡ left_by_call self.old f call.now answer.told) }
+        ensures err { OnErr result (self.new ≡ self.old) }
+    {
+        match call {
+            MemberCall::Act(_) => unreachable!(),
             MemberCall::Notify { .. } => Ok(twice(MemberReply::Written)),
             MemberCall::Msix { on } => {
                 self.device.set_msix(*on);
@@ -112,17 +126,27 @@ impl State {
         }
     }
 
+    /// What is kept of the two queues, after the entry of this call and reply. The queue was selected before it.
+    fn note_queues(&mut self, selected: u16, call: &MemberCall, reply: &MemberReply)
+        ensures { (who : ℕ) → self.new ≡ record self.old { queues = queues_then self.old.device.made.kind selected record { who = who; call = call.now; reply = reply.now } self.old.queues } }
+    {
+        if !tells_queues(call) {
+            return;
+        }
+        let kind = &self.device.made().kind;
+        self.queues = [
+            self.queues[0].after(kind, 0, selected, call, reply),
+            self.queues[1].after(kind, 1, selected, call, reply),
+        ];
+    }
+
     /// What is kept beside the device, after the entry of this call and reply at this place. The queue was selected before it.
     fn note(&mut self, at: u64, selected: u16, call: &MemberCall, reply: &MemberReply)
         requires at { at < history_limit }
         requires vector { HasSmallVector reply.now }
         ensures { (who : ℕ) → self.new ≡ noted at selected record { who = who; call = call.now; reply = reply.now } self.old }
     {
-        let kind = &self.device.made().kind;
-        self.queues = [
-            self.queues[0].after(kind, 0, selected, call, reply),
-            self.queues[1].after(kind, 1, selected, call, reply),
-        ];
+        self.note_queues(selected, call, reply);
         self.raised = if takes_irqs(call, reply) {
             0
         } else {

@@ -12,7 +12,7 @@ use Rattle.legacy_regs.specs.declared.accesses.Effect.{Effect}
 use Rattle.legacy_regs.specs.declared.accesses.Effect.TheVariants.{Nothing, Notify, Reset, Address}
 use Rattle.legacy_regs.specs.Fields.{common_fields, is_in_one_field, touches, queue_notify_field, queue_address_field}
 use Rattle.legacy_regs.specs.Registers.{Registers, Bank, queue_count, selected}
-use Rattle.legacy_regs.specs.Accesses.{is_refused_read, is_refused_write, notifies_in_part, read_answer, write_answer, after_read, after_write, write_structure, is_reset_write, byte_put}
+use Rattle.legacy_regs.specs.Accesses.{is_refused_write, notifies_in_part, write_answer, read_structure, after_write, write_structure, is_reset_write, byte_put}
 use Rattle.group_calls.specs.declared.member.MemberReply.{MemberReply}
 use Rattle.group_calls.specs.declared.member.MemberReply.TheVariants.{Data, Written}
 use Rattle.group_calls.specs.declared.member.MemberCall.TheVariants.{Act}
@@ -30,14 +30,10 @@ with_registers d r r' w w' e f = ap (λ (x : Registers). record d { registers = 
 
 -- ---- reads
 
-pub registers_read : (bank new : Bank) (kind : Kind) (space : Space) (offset count : ℕ) (told : MemberReply) (bytes read : List ℕ) → bank.kind ≡ kind → told ≡ Data read → Ok bytes ≡ read_answer bank space offset count
-    → new ≡ record bank { registers = after_read bank space offset count } → new.registers ≡ registers_then kind (Act (read_command space offset count)) told bank.registers
-registers_read bank new kind Common offset count told bytes read same told_is answer new_is =
-    let refused : is_refused_read bank.kind bank.registers.msix Common offset count ≡ false = (not_refused (is_refused_read bank.kind bank.registers.msix Common offset count) _ bytes _ answer).0 in
-    ap (λ (b : Bank). b.registers) new_is ∙ rw (refused, told_is) refl
-registers_read bank new kind Device offset count told bytes read same told_is answer new_is =
-    let refused : is_refused_read bank.kind bank.registers.msix Device offset count ≡ false = (not_refused (is_refused_read bank.kind bank.registers.msix Device offset count) _ bytes _ answer).0 in
-    ap (λ (b : Bank). b.registers) new_is ∙ rw (refused, told_is) refl
+pub registers_read : (bank new : Bank) (kind : Kind) (space : Space) (offset count : ℕ) (told : MemberReply) (read : List ℕ) → told ≡ Data read
+    → new ≡ record bank { registers = read_structure space offset count bank.registers } → new.registers ≡ registers_then kind (Act (read_command space offset count)) told bank.registers
+registers_read bank new kind Common offset count told read told_is new_is = ap (λ (b : Bank). b.registers) new_is ∙ rw told_is refl
+registers_read bank new kind Device offset count told read told_is new_is = ap (λ (b : Bank). b.registers) new_is ∙ rw told_is refl
 
 pub waiting_read : (space : Space) (offset count : ℕ) (told : MemberReply) (read : List ℕ) (waiting : List (List ℕ)) → told ≡ Data read → waiting ≡ waiting_after_act (read_command space offset count) told waiting
 waiting_read Common offset count told read waiting told_is = rw told_is refl

@@ -52,7 +52,7 @@ impl Device {
             return Ok(Answer::refused(Why::Field));
         };
         let answer = Answer::bytes(self.alloc, bytes.as_slice())?;
-        let _ = self.regs.read(space, offset, length);
+        self.regs.note_read(space, offset, length);
         Ok(answer)
     }
 

@@ -8,8 +8,8 @@ use crate::looking::{away_found, floor_found};
 use crate::numbers::{
     EINVAL, INVALID_FIELD, INVALID_GROUP, INVALID_MEMBER, INVALID_OPCODE, SUPPORTED_LIST,
 };
-use crate::steps::{away_after, count_after, in_use_after, strays_after, told_after};
-use admin_wire::{Body, LEGACY_NOTIFY_INFO, LIST_USE, SR_IOV, read_command};
+use crate::steps::{count_after, in_use_after, note_away, note_told, strays_after};
+use admin_wire::{Body, LEGACY_NOTIFY_INFO, LIST_USE, SR_IOV, read_body, read_header};
 use board_text::{FLOOR_LIMIT, Piece};
 use group_calls::{Entry, HISTORY_LIMIT, Log, OwnerCall, OwnerReply, Placed, Serial};
 use std::alloc::{AllocError as NoMemory, Global};
@@ -134,14 +134,14 @@ impl Owner {
         requires { writable ≤ writable_limit }
         ensures { result ≡ verdict self.now.history bytes.now writable }
     {
-        let command = read_command(bytes, writable);
+        let command = read_header(bytes);
         if command.group_type != SR_IOV {
             return self.refused(command.member, INVALID_GROUP);
         }
         if command.opcode > LEGACY_NOTIFY_INFO || !self.is_used(command.opcode) {
             return self.refused(command.member, INVALID_OPCODE);
         }
-        self.verdict_on(command.member, command.body)
+        self.verdict_on(command.member, read_body(&command, bytes, writable))
     }
 
     // What some actor may ask.
@@ -181,21 +181,16 @@ impl Serial for Owner {
             return Err(NoMemory);
         }
         let reply = self.answer(call);
-        let count = count_after(self.count, call);
-        let in_use = in_use_after(self.in_use, call, &reply);
-        let told = told_after(self.told, call);
-        let away = away_after(self.away, call);
-        let strays = strays_after(self.strays, call);
         self.log.push(Entry {
             who,
             call: call.copy(),
             reply: reply.copy(),
         })?;
-        self.count = count;
-        self.in_use = in_use;
-        self.told = told;
-        self.away = away;
-        self.strays = strays;
+        self.count = count_after(self.count, call);
+        self.in_use = in_use_after(self.in_use, call, &reply);
+        note_told(&mut self.told, call);
+        note_away(&mut self.away, call);
+        self.strays = strays_after(self.strays, call);
         Ok(Placed { at, reply })
     }
 

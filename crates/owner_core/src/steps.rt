@@ -63,35 +63,28 @@ fn spread(floors: &Floors) -> [u64; FLOOR_LIMIT]
 }
 
 /// The floor of each member.
-pub(crate) fn told_after(told: [u64; FLOOR_LIMIT], call: &OwnerCall) -> [u64; FLOOR_LIMIT]
-    ensures { (h : List OwnerEntry) (who : ℕ) (reply : OwnerReply) → AreFloors told h → AreFloors result (record { who = who; call = call.now; reply = reply } ∷ h) }
+pub(crate) fn note_told(told: &mut [u64; FLOOR_LIMIT], call: &OwnerCall)
+    ensures { (h : List OwnerEntry) (who : ℕ) (reply : OwnerReply) → AreFloors told.old h → AreFloors told.new (record { who = who; call = call.now; reply = reply } ∷ h) }
 {
     match call {
         OwnerCall::Gone { member, floor } => {
-            let mut new = told;
             if 0 < *member && *member <= FLOOR_LIMIT as u32 {
-                new[*member as usize - 1] = *floor;
+                told[*member as usize - 1] = *floor;
             }
-            new
         }
-        OwnerCall::Reset { floors } => spread(floors),
-        _ => told,
+        OwnerCall::Reset { floors } => *told = spread(floors),
+        _ => {}
     }
 }
 
 /// Which members are away.
-pub(crate) fn away_after(away: [bool; FLOOR_LIMIT], call: &OwnerCall) -> [bool; FLOOR_LIMIT]
-    ensures { (h : List OwnerEntry) (who : ℕ) (reply : OwnerReply) → AreAway away h → AreAway result (record { who = who; call = call.now; reply = reply } ∷ h) }
+pub(crate) fn note_away(away: &mut [bool; FLOOR_LIMIT], call: &OwnerCall)
+    ensures { (h : List OwnerEntry) (who : ℕ) (reply : OwnerReply) → AreAway away.old h → AreAway away.new (record { who = who; call = call.now; reply = reply } ∷ h) }
 {
-    match call {
-        OwnerCall::Gone { member, floor: _ } => {
-            let mut new = away;
-            if 0 < *member && *member <= FLOOR_LIMIT as u32 {
-                new[*member as usize - 1] = true;
-            }
-            new
+    if let OwnerCall::Gone { member, floor: _ } = call {
+        if 0 < *member && *member <= FLOOR_LIMIT as u32 {
+            away[*member as usize - 1] = true;
         }
-        _ => away,
     }
 }
 

@@ -1,4 +1,5 @@
 use board_script::{AdminText, Script, ScriptFault, read_admin, read_alone, read_script};
+use script_load::{LOAD_LIMIT, load_script};
 use script_writer::write_script;
 use std::alloc::{AllocError, Global};
 use std::test::Fail;
@@ -422,5 +423,39 @@ fn each_form_is_shown_and_written(rt: HostRuntime) -> Result<(), Fail> {
     assert!(rt; write_script(alloc, &again)?.as_slice() == WRITTEN.as_bytes());
     let admin = read_admin(alloc, EACH_ADMIN_FORM.as_bytes())?;
     assert_eq!(rt; show_admin(alloc, &admin)?.as_str(), SHOWN_ADMIN);
+    Ok(())
+}
+
+const LOADED: &str = "board 1 4 0
+guest 1 block 4 8
+guest 2 net 4 020000000002
+guest 3 block 4 8
+guest 4 net 4 020000000004
+";
+
+#[test]
+fn seeds_give_their_lines(rt: HostRuntime) -> Result<(), Fail> {
+    let alloc = rt.alloc();
+    let rows: [(u64, u32, &str); 4] = [
+        (0, 0, ""),
+        (
+            0,
+            8,
+            "g4 in 19 1\ng1 in 12 2\ng2 in 18 1\ng1 out 14 0300\ng2 in 19 1\ng4 in 12 2\ng1 in 12 2\ng4 out 14 0000\n",
+        ),
+        (1, 1, "g3 out 14 0100\n"),
+        (
+            18446744073709551615,
+            4,
+            "g1 in 12 2\ng4 out 14 0300\ng2 out 14 0100\ng3 in 18 1\n",
+        ),
+    ];
+    for (seed, count, lines) in rows {
+        assert!(rt; count <= LOAD_LIMIT);
+        let text = write_script(alloc, &load_script(alloc, seed, count)?)?;
+        let mut want = Vec::from_slice(alloc, LOADED.as_bytes())?;
+        want.extend_from_slice(lines.as_bytes())?;
+        assert!(rt; text.as_slice() == want.as_slice());
+    }
     Ok(())
 }

@@ -20,7 +20,7 @@ invariant_of-self-2 c =
     let keeps = c.self.invariant in
     let put : c.put.new.self.entries ≡ record { who = c.args.who; call = c.args.call.now; reply = c.in_ok-answer.answer.told } ∷ h =
     c.put.ensures.entries
-    ∙ ap (λ (call : MemberCall). record { who = c.args.who; call = call; reply = c.in_ok-answer.answer.kept } ∷ c.reserve.new.self.entries) c.in_ok-asked.ensures
+    ∙ ap (λ (call : MemberCall). record { who = c.args.who; call = call; reply = c.in_ok-answer.answer.kept } ∷ c.reserve.new.self.entries) c.with_bytes.ensures
     ∙ ap (λ (reply : MemberReply). record { who = c.args.who; call = c.args.call.now; reply = reply } ∷ c.reserve.new.self.entries) c.in_ok-answer.ensures.kept
     ∙ ap (λ (entries : List MemberEntry). record { who = c.args.who; call = c.args.call.now; reply = c.in_ok-answer.answer.told } ∷ entries) c.reserve.ensures.entries in
     let at = c.length-at.ensures in

@@ -1,4 +1,4 @@
-use Rattle.std.proofs.Common.{sym, ◌∙◌}
+use Rattle.std.proofs.Common.{◌∙◌}
 use Rattle.member_device.specs.Device.{Holdings}
 use Rattle.member_device.proofs.Accesses.{with_registers, registers_read, waiting_read}
 use Rattle.member_device.proofs.device.Device.read.Goals as goal
@@ -8,6 +8,5 @@ returns-clause-left c = rw (← c.self.view_is)
     (let v = c.self.inside in
     let d : Holdings = record { made = v.made; registers = v.regs.registers; memory = v.memory; disk = v.disk; waiting = v.backlog } in
     with_registers d _ _ _ _
-    (registers_read v.regs c.read.new.self v.made.kind c.args.space c.args.offset c.args.length c.in_ok-answer.answer.told c.in-Ok.bytes c.as_slice.result.now c.self.invariant.kind c.in_ok-answer.ensures.told
-    (sym c.in-Ok.is ∙ c.peek.ensures.answer) c.read.ensures.registers)
+    (registers_read v.regs c.note_read.new.self v.made.kind c.args.space c.args.offset c.args.length c.in_ok-answer.answer.told c.as_slice.result.now c.in_ok-answer.ensures.told c.note_read.ensures)
     (waiting_read c.args.space c.args.offset c.args.length c.in_ok-answer.answer.told c.as_slice.result.now v.backlog c.in_ok-answer.ensures.told))

@@ -15,13 +15,13 @@ invariant_of-self-2 c =
     let may : owner_may c.self.inside.members c.args.who c.args.call.now = subst (λ v. owner_may v.made c.args.who c.args.call.now) (sym c.self.view_is) c.requires in
     let room = c.if-at-ge-HISTORY_LIMIT.false in
     let at = c.length-at.ensures in
-    subst (λ (es : List OwnerEntry). Keeps c.self.inside.members c.count_after-count.result c.in_use_after-in_use.result c.told_after-told.result c.away_after-away.result c.strays_after-strays.result es) (sym e)
+    subst (λ (es : List OwnerEntry). Keeps c.self.inside.members c.count_after-self-inside.result c.in_use_after-self-inside.result c.note_told.new.told c.note_away.new.away c.strays_after-self-inside.result es) (sym e)
     record {
-      count_is = c.count_after-count.ensures c.self.inside.log.entries c.args.who c.answer-reply.result k.count_is;
-      in_use_is = c.in_use_after-in_use.ensures c.self.inside.log.entries c.args.who k.in_use_is;
-      told_are = c.told_after-told.ensures c.self.inside.log.entries c.args.who c.answer-reply.result k.told_are;
-      away_are = c.away_after-away.ensures c.self.inside.log.entries c.args.who c.answer-reply.result k.away_are;
-      strays_are = c.strays_after-strays.ensures c.self.inside.log.entries c.args.who c.answer-reply.result k.strays_are;
+      count_is = c.count_after-self-inside.ensures c.self.inside.log.entries c.args.who c.answer-reply.result k.count_is;
+      in_use_is = c.in_use_after-self-inside.ensures c.self.inside.log.entries c.args.who k.in_use_is;
+      told_are = c.note_told.ensures c.self.inside.log.entries c.args.who c.answer-reply.result k.told_are;
+      away_are = c.note_away.ensures c.self.inside.log.entries c.args.who c.answer-reply.result k.away_are;
+      strays_are = c.strays_after-self-inside.ensures c.self.inside.log.entries c.args.who c.answer-reply.result k.strays_are;
       legal = (is, refl, may, k.legal);
       most = omega (arith, room, at);
     }

@@ -6,7 +6,7 @@ use Rattle.group_calls.specs.Steps.{outcome}
 use Rattle.member_core.specs.Holding.{holdings_then}
 use Rattle.member_core.proofs.Holding.{left_by_step-is}
 use Rattle.member_core.proofs.Results.{both-then}
-use Rattle.member_core.proofs.state.State.living_answer.Goals as goal
+use Rattle.member_core.proofs.state.State.other_answer.Goals as goal
 
 pub returns-in-Step-clause-left : goal.returns-in-Step-clause-left
 returns-in-Step-clause-left c = λ f told.
