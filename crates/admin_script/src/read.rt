@@ -1,16 +1,17 @@
 //! Reading the input of `admin`.
-ghost use Rattle.std.specs.Prelude.{◌≡◌, ◌<◌, ◌-◌, ◌^◌, length, IfOk};
+ghost use Rattle.std.specs.Prelude.{◌≡◌, ◌<◌, ◌-◌, ◌^◌, ◌++◌, ◌∷◌, [], length};
 ghost use Rattle.script_words.specs.Texts.{Reads};
-ghost use Rattle.script_words.specs.Values.{Gives, Steps};
+ghost use Rattle.script_words.specs.Values.{Steps};
+ghost use Rattle.admin_script.specs.declared.shape.AdminShape.TheVariants as shape_of;
 ghost use Rattle.admin_script.specs.Bounds.{IsAdminLine};
-ghost use Rattle.admin_script.specs.Admin.{breaks_admin, command_bytes, admin_row, with_admin_row, with_admin_form, with_admin_text, admin_text_of};
+ghost use Rattle.admin_script.specs.Admin.{breaks_admin, command_bytes, with_admin_row, with_admin_form, with_admin_text, admin_text_of};
 
 use crate::limits::{COMMAND_LIMIT, FUNCTION_LIMIT, ROOM_LIMIT};
 use crate::line::AdminLine;
 use crate::shape::{AdminShape, read_shape};
 use crate::text::AdminText;
 use board_text::{Piece, next_line};
-use script_words::{Cause, Fault, ScriptFault, Word, at_line, is_ignored, number, piece};
+use script_words::{Cause, Fault, ScriptFault, Word, at_line, fill_piece, is_ignored, number};
 use std::alloc::Global;
 
 fn breaks_setup(earlier: &AdminText, shape: &AdminShape) -> bool
@@ -23,40 +24,52 @@ fn breaks_setup(earlier: &AdminText, shape: &AdminShape) -> bool
     }
 }
 
-fn command(word: &Word) -> Result<Piece, Fault>
-    ensures { Gives result (command_bytes word.now) }
+// Puts the bytes of a command into a piece that has none yet.
+fn fill_command(word: &Word, piece: &mut Piece) -> Result<(), Fault>
+    requires { piece.old ≡ [] }
+    ensures { Steps result piece.new (command_bytes word.now) }
 {
     if word.is(b"-") {
-        return Ok(Piece::new());
+        return Ok(());
     }
-    piece(word, 0, COMMAND_LIMIT)
+    fill_piece(word, 0, COMMAND_LIMIT, piece)
 }
 
-fn row(shape: &AdminShape) -> Result<AdminLine, Fault>
-    ensures value { Gives result (admin_row shape.now) }
-    ensures bounds { IfOk result IsAdminLine }
+fn add_line(text: &mut AdminText, line: AdminLine) -> Result<(), Fault>
+    requires { IsAdminLine line }
+    ensures { Steps result text.new (Ok (text.old ++ line ∷ [])) }
 {
-    match shape {
-        AdminShape::Vfs { count } => {
-            let count = number(count, 0, FUNCTION_LIMIT)? as u32;
-            Ok(AdminLine::Vfs { count })
-        }
-        AdminShape::Reset => Ok(AdminLine::Reset),
-        AdminShape::Cmd { writable, bytes } => {
-            let writable = number(writable, 0, ROOM_LIMIT)? as u32;
-            let bytes = command(bytes)?;
-            Ok(AdminLine::Cmd { writable, bytes })
-        }
+    match text.push(line) {
+        Ok(()) => Ok(()),
+        Err(_) => Err(Fault::NoMemory),
     }
+}
+
+fn add_command(text: &mut AdminText, writable: &Word, bytes: &Word) -> Result<(), Fault>
+    ensures { Steps result text.new (with_admin_row text.old (shape_of.Cmd writable.now bytes.now)) }
+{
+    let writable = number(writable, 0, ROOM_LIMIT)? as u32;
+    let mut piece = Piece::new();
+    fill_command(bytes, &mut piece)?;
+    add_line(
+        text,
+        AdminLine::Cmd {
+            writable,
+            bytes: piece,
+        },
+    )
 }
 
 fn add_row(text: &mut AdminText, shape: &AdminShape) -> Result<(), Fault>
     ensures { Steps result text.new (with_admin_row text.old shape.now) }
 {
-    let line = row(shape)?;
-    match text.push(line) {
-        Ok(()) => Ok(()),
-        Err(_) => Err(Fault::NoMemory),
+    match shape {
+        AdminShape::Vfs { count } => {
+            let count = number(count, 0, FUNCTION_LIMIT)? as u32;
+            add_line(text, AdminLine::Vfs { count })
+        }
+        AdminShape::Reset => add_line(text, AdminLine::Reset),
+        AdminShape::Cmd { writable, bytes } => add_command(text, writable, bytes),
     }
 }
 
@@ -91,6 +104,9 @@ pub fn read_admin(alloc: Global, text: &[u8]) -> Result<AdminText, ScriptFault>
     ensures { Reads result (admin_text_of text.now) }
 {
     let mut admin = AdminText::new(alloc);
+    if admin.reserve(text.len()).is_err() {
+        return Err(ScriptFault::NoMemory);
+    }
     let mut from = 0;
     let mut number = 1;
     'lines: while let Some(line) = next_line(text, from) {

@@ -4,6 +4,7 @@ ghost use Rattle.std.specs.List.{slice_get, list_any};
 ghost use Rattle.admin_script.specs.Admin.{begins as begins_of};
 ghost use Rattle.admin_script.specs.Bounds.{IsAdminLine};
 
+use crate::limits::{FIRST_LINES, LINE_LENGTH};
 use crate::line::{AdminLine, begins};
 use std::alloc::{AllocError as NoMemory, Global};
 use std::marker::Model;
@@ -38,6 +39,13 @@ impl AdminText {
             lines: Vec::new(alloc),
             begun: false,
         }
+    }
+
+    // Takes room for the first lines of a text of so many bytes.
+    pub(crate) fn reserve(&mut self, bytes: usize) -> Result<(), NoMemory>
+        ensures { OnOk result (self.new ≡ self.old) }
+    {
+        self.lines.reserve((bytes / LINE_LENGTH).min(FIRST_LINES))
     }
 
     pub(crate) fn has_begun(&self) -> bool

@@ -3,3 +3,4 @@ pub mod SoFar
 pub mod Rows
 pub mod Script
 pub mod Bounds
+pub mod Kept

@@ -6,7 +6,7 @@ ghost use Rattle.board_script.specs.Bounds.{IsBoard, IsSetup, MayAsk, IsTurns, I
 ghost use Rattle.board_script.specs.Limits.{queue_limit, worker_limit, guest_limit, page_size, turns_limit, alone_limit};
 ghost use Rattle.board_script.specs.Script.{whole_of};
 
-use crate::limits::{ALONE_LIMIT, PAGE_SIZE, TURNS_LIMIT};
+use crate::limits::{ALONE_LIMIT, FIRST_LINES, LINE_LENGTH, PAGE_SIZE, TURNS_LIMIT};
 use crate::script::{ActorLine, Board, Script, Setup, Turns};
 use legacy_regs::Kind;
 use script_words::{Word, number_at};
@@ -65,6 +65,13 @@ impl Draft {
             turns: Vec::new(alloc),
             scheduled: 0,
         }
+    }
+
+    /// Takes room for the first lines of actors of a text of so many bytes.
+    pub fn reserve(&mut self, bytes: usize) -> Result<(), NoMemory>
+        ensures { OnOk result (self.new ≡ self.old) }
+    {
+        self.lines.reserve((bytes / LINE_LENGTH).min(FIRST_LINES))
     }
 
     pub fn has_board(&self) -> bool

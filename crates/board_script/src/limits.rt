@@ -47,3 +47,9 @@ pub const TURNS_LIMIT: u64 = 1_000_000;
 
 /// The most lines of actors where one guest is alone.
 pub const ALONE_LIMIT: usize = 4_096;
+
+// How many bytes a line of an actor takes, about the fewest.
+pub(crate) const LINE_LENGTH: usize = 8;
+
+// For how many lines of actors room is taken at once at most. Room for more lines is taken as they come.
+pub(crate) const FIRST_LINES: usize = 512;

@@ -7,14 +7,14 @@ ghost use Rattle.board_script.specs.Limits.{turns_limit};
 ghost use Rattle.board_script.specs.SoFar.{has_begun, is_out_of_turn, nothing, scheduled};
 ghost use Rattle.board_script.specs.Bounds.{KeepsLimit, IsScript, IsServed};
 ghost use Rattle.board_script.specs.Rows.{with_pair, with_pairs};
-ghost use Rattle.board_script.specs.Script.{breaks_setup as breaks_setup_of, has_room as has_room_of, with_board, with_guest, with_act, with_go, with_shape, with_form, with_text, with_lines, serves as serves_of, script_of};
+ghost use Rattle.board_script.specs.Script.{breaks_setup as breaks_setup_of, with_board, with_guest, with_go, with_shape, with_form, with_text, with_lines, serves as serves_of, script_of};
 
 use crate::draft::{Draft, Use};
-use crate::rows::{act_deed, board, guest_setup, pair};
-use crate::script::{ActorLine, Script};
+use crate::rows::{Place, add_act, board, guest_setup, pair};
+use crate::script::Script;
 use board_text::next_line;
 use script_words::{
-    Act, Cause, Fault, Member, ScriptFault, Shape, Word, Words, at_line, is_ignored, read_shape,
+    Cause, Fault, Member, ScriptFault, Shape, Word, Words, at_line, is_ignored, read_shape,
 };
 use std::alloc::Global;
 
@@ -79,34 +79,6 @@ fn add_guest(draft: &mut Draft, guest: &Word, member: &Member) -> Result<(), Fau
     }
 }
 
-fn has_room(used: Use, draft: &Draft) -> bool
-    ensures { result ≡ has_room_of used draft.now }
-{
-    match used {
-        Use::Group => true,
-        Use::Alone => draft.has_room(),
-    }
-}
-
-fn add_act(alloc: Global, draft: &mut Draft, used: Use, number: u32, act: &Act) -> Result<(), Fault>
-    ensures value { Steps result draft.new (with_act used number draft.old act.now) }
-    ensures limit { OnOk result (KeepsLimit draft.old draft.new) }
-{
-    let deed = act_deed(alloc, draft, act)?;
-    if !has_room(used, draft) {
-        return Err(Fault::Bad(Cause::Limit));
-    }
-    let line = ActorLine {
-        number,
-        who: deed.who,
-        what: deed.what,
-    };
-    match draft.add_line(line) {
-        Ok(()) => Ok(()),
-        Err(_) => Err(Fault::NoMemory),
-    }
-}
-
 // The cause `setup`.
 fn breaks_setup(draft: &Draft, shape: &Shape) -> bool
     ensures { result ≡ breaks_setup_of draft.now shape.now }
@@ -142,7 +114,7 @@ fn add_shape(
             number: guest,
             member,
         } => add_guest(draft, &guest, &member),
-        Shape::Acts(act) => add_act(alloc, draft, used, number, &act),
+        Shape::Acts(act) => add_act(alloc, draft, Place { used, number }, &act),
         Shape::Go(words) => add_go(draft, words),
     }
 }
@@ -200,6 +172,9 @@ fn read_lines(alloc: Global, used: Use, text: &[u8]) -> Result<Draft, ScriptFaul
     ensures limit { IfOk result (λ draft. scheduled draft ≤ turns_limit) }
 {
     let mut draft = Draft::new(alloc);
+    if draft.reserve(text.len()).is_err() {
+        return Err(ScriptFault::NoMemory);
+    }
     let mut from = 0;
     let mut number = 1;
     'lines: while let Some(line) = next_line(text, from) {

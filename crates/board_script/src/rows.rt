@@ -1,22 +1,25 @@
 //! What each form of a line says.
-ghost use Rattle.std.specs.Prelude.{◌≡◌, ℕ, ◌≤◌, ◌<◌, ◌+◌, nat_le, IfOk, length};
+ghost use Rattle.std.specs.Prelude.{◌≡◌, ℕ, ◌≤◌, ◌<◌, ◌+◌, nat_le, IfOk, OnOk, length};
 ghost use Rattle.std.specs.List.{sum_by};
-ghost use Rattle.script_words.specs.Values.{Gives};
+ghost use Rattle.script_words.specs.Values.{Gives, Steps};
 ghost use Rattle.board_script.specs.Limits.{worker_limit, mac_length};
 ghost use Rattle.board_script.specs.SoFar.{queues_at, workers_at, guest_at, worker_at, queue_at, is_net};
-ghost use Rattle.board_script.specs.Bounds.{IsBoard, IsSetup, IsGuest, IsQueue, IsActor, IsTurns, Allows};
+ghost use Rattle.board_script.specs.Bounds.{IsBoard, IsSetup, IsGuest, IsQueue, IsActor, IsTurns, Allows, KeepsLimit};
+ghost use Rattle.board_script.specs.Script.{has_room as has_room_of, with_line};
+ghost use Rattle.board_script.specs.Kept.{with_row};
 ghost use Rattle.board_script.specs.Rows.{made_by, queue_named, board_row, block_row, net_row, member_row, guest_row, in_row, out_row, mem_row, peek_row, cfg_row, guest_does, poll_row, serve_row, worker_poll_row, frame_row, flr_row, disable_row, act_row, actor_at, pair_row};
 
-use crate::draft::Draft;
+use crate::draft::{Draft, Use};
 use crate::limits::{
     FRAME_LEAST, FRAME_LIMIT, GUEST_LIMIT, HOST, INDEX_LIMIT, MAC_LENGTH, OFFSET_LIMIT, PAGE_LIMIT,
     QUEUE_LIMIT, RANGE_LIMIT, SECTOR_LIMIT, TURNS_LIMIT, WORKER_LIMIT, WORKERS_FROM,
 };
-use crate::script::{Board, Setup, Turns, What};
+use crate::script::{ActorLine, Board, Setup, Turns, What};
+use board_text::Piece;
 use legacy_regs::Kind;
 use script_words::{
-    Act, Cause, Fault, Head, Member, Tail, Word, among, bytes, large_number, number, piece,
-    queue_size, short_bytes, width,
+    Act, Cause, Fault, Head, Member, Tail, Word, among, bytes, fill_short_bytes, large_number,
+    number, piece, queue_size, width,
 };
 use std::alloc::Global;
 
@@ -25,6 +28,43 @@ use std::alloc::Global;
 pub struct Deed {
     pub who: u32,
     pub what: What,
+}
+
+// Where a line of an actor stands: what the script is read for, and the line's number.
+#[derive(Clone, Copy, Debug, PartialEq, Eq)]
+pub struct Place {
+    pub used: Use,
+    pub number: u32,
+}
+
+fn has_room(used: Use, draft: &Draft) -> bool
+    ensures { result ≡ has_room_of used draft.now }
+{
+    match used {
+        Use::Group => true,
+        Use::Alone => draft.has_room(),
+    }
+}
+
+// Adds a line, which is made where it is handed over: one that is handed up through a result is copied each time.
+#[inline(never)]
+fn add_deed(draft: &mut Draft, place: Place, deed: Deed) -> Result<(), Fault>
+    requires { Allows draft.old deed }
+    ensures value { Steps result draft.new (with_line place.used place.number draft.old deed) }
+    ensures limit { OnOk result (KeepsLimit draft.old draft.new) }
+{
+    if !has_room(place.used, draft) {
+        return Err(Fault::Bad(Cause::Limit));
+    }
+    let line = ActorLine {
+        number: place.number,
+        who: deed.who,
+        what: deed.what,
+    };
+    match draft.add_line(line) {
+        Ok(()) => Ok(()),
+        Err(_) => Err(Fault::NoMemory),
+    }
 }
 
 fn guest(draft: &Draft, word: &Word) -> Result<u32, Fault>
@@ -134,53 +174,64 @@ pub fn guest_setup(guest: &Word, words: &Member) -> Result<Setup, Fault>
 }
 
 fn access_in(
-    draft: &Draft,
+    draft: &mut Draft,
+    place: Place,
     guest_word: &Word,
     offset: &Word,
     length: &Word,
     tail: &Tail,
-) -> Result<Deed, Fault>
-    ensures value { Gives result (in_row draft.now guest_word.now offset.now length.now tail.now) }
-    ensures allowed { IfOk result (Allows draft.now) }
+) -> Result<(), Fault>
+    ensures value { Steps result draft.new (with_row place draft.old (in_row draft.old guest_word.now offset.now length.now tail.now)) }
+    ensures limit { OnOk result (KeepsLimit draft.old draft.new) }
 {
     let who = guest(draft, guest_word)?;
     let offset = number(offset, 0, OFFSET_LIMIT)? as u8;
     let length = width(length)?;
     let queue = queue_of_tail(draft, &tail.queue)?;
-    Ok(Deed {
-        who,
-        what: What::BarRead {
-            offset,
-            length,
-            queue,
-            once: tail.once,
+    add_deed(
+        draft,
+        place,
+        Deed {
+            who,
+            what: What::BarRead {
+                offset,
+                length,
+                queue,
+                once: tail.once,
+            },
         },
-    })
+    )
 }
 
 fn access_out(
-    draft: &Draft,
+    draft: &mut Draft,
+    place: Place,
     guest_word: &Word,
     offset: &Word,
     hex: &Word,
     tail: &Tail,
-) -> Result<Deed, Fault>
-    ensures value { Gives result (out_row draft.now guest_word.now offset.now hex.now tail.now) }
-    ensures allowed { IfOk result (Allows draft.now) }
+) -> Result<(), Fault>
+    ensures value { Steps result draft.new (with_row place draft.old (out_row draft.old guest_word.now offset.now hex.now tail.now)) }
+    ensures limit { OnOk result (KeepsLimit draft.old draft.new) }
 {
     let who = guest(draft, guest_word)?;
     let offset = number(offset, 0, OFFSET_LIMIT)? as u8;
-    let bytes = short_bytes(hex)?;
+    let mut bytes = Piece::new();
+    fill_short_bytes(hex, &mut bytes)?;
     let queue = queue_of_tail(draft, &tail.queue)?;
-    Ok(Deed {
-        who,
-        what: What::BarWrite {
-            offset,
-            bytes,
-            queue,
-            once: tail.once,
+    add_deed(
+        draft,
+        place,
+        Deed {
+            who,
+            what: What::BarWrite {
+                offset,
+                bytes,
+                queue,
+                once: tail.once,
+            },
         },
-    })
+    )
 }
 
 // Whether a range lies in a memory.
@@ -195,13 +246,14 @@ fn lies_in(addr: u64, length: u64, memory: u64) -> bool
 
 fn mem(
     alloc: Global,
-    draft: &Draft,
+    draft: &mut Draft,
+    place: Place,
     guest_word: &Word,
     addr: &Word,
     hex: &Word,
-) -> Result<Deed, Fault>
-    ensures value { Gives result (mem_row draft.now guest_word.now addr.now hex.now) }
-    ensures allowed { IfOk result (Allows draft.now) }
+) -> Result<(), Fault>
+    ensures value { Steps result draft.new (with_row place draft.old (mem_row draft.old guest_word.now addr.now hex.now)) }
+    ensures limit { OnOk result (KeepsLimit draft.old draft.new) }
 {
     let who = guest(draft, guest_word)?;
     let addr = large_number(addr)?;
@@ -209,15 +261,25 @@ fn mem(
     if !lies_in(addr, bytes.as_slice().len() as u64, draft.memory(who)) {
         return Err(Fault::Bad(Cause::Range));
     }
-    Ok(Deed {
-        who,
-        what: What::Mem { addr, bytes },
-    })
+    add_deed(
+        draft,
+        place,
+        Deed {
+            who,
+            what: What::Mem { addr, bytes },
+        },
+    )
 }
 
-fn peek(draft: &Draft, guest_word: &Word, addr: &Word, length: &Word) -> Result<Deed, Fault>
-    ensures value { Gives result (peek_row draft.now guest_word.now addr.now length.now) }
-    ensures allowed { IfOk result (Allows draft.now) }
+fn peek(
+    draft: &mut Draft,
+    place: Place,
+    guest_word: &Word,
+    addr: &Word,
+    length: &Word,
+) -> Result<(), Fault>
+    ensures value { Steps result draft.new (with_row place draft.old (peek_row draft.old guest_word.now addr.now length.now)) }
+    ensures limit { OnOk result (KeepsLimit draft.old draft.new) }
 {
     let who = guest(draft, guest_word)?;
     let addr = large_number(addr)?;
@@ -225,120 +287,170 @@ fn peek(draft: &Draft, guest_word: &Word, addr: &Word, length: &Word) -> Result<
     if !lies_in(addr, length, draft.memory(who)) {
         return Err(Fault::Bad(Cause::Range));
     }
-    Ok(Deed {
-        who,
-        what: What::Peek {
-            addr,
-            length: length as u32,
+    add_deed(
+        draft,
+        place,
+        Deed {
+            who,
+            what: What::Peek {
+                addr,
+                length: length as u32,
+            },
         },
-    })
+    )
 }
 
-fn cfg(draft: &Draft, guest_word: &Word, offset: &Word, length: &Word) -> Result<Deed, Fault>
-    ensures value { Gives result (cfg_row draft.now guest_word.now offset.now length.now) }
-    ensures allowed { IfOk result (Allows draft.now) }
+fn cfg(
+    draft: &mut Draft,
+    place: Place,
+    guest_word: &Word,
+    offset: &Word,
+    length: &Word,
+) -> Result<(), Fault>
+    ensures value { Steps result draft.new (with_row place draft.old (cfg_row draft.old guest_word.now offset.now length.now)) }
+    ensures limit { OnOk result (KeepsLimit draft.old draft.new) }
 {
     let who = guest(draft, guest_word)?;
     let offset = number(offset, 0, OFFSET_LIMIT)? as u8;
     let length = width(length)?;
-    Ok(Deed {
-        who,
-        what: What::Cfg { offset, length },
-    })
+    add_deed(
+        draft,
+        place,
+        Deed {
+            who,
+            what: What::Cfg { offset, length },
+        },
+    )
 }
 
-fn guest_deed(draft: &Draft, guest_word: &Word, what: What) -> Result<Deed, Fault>
-    requires { (n : ℕ) → IsGuest draft.now.guests n → Allows draft.now (made_by n what) }
-    ensures value { Gives result (guest_does draft.now guest_word.now what) }
-    ensures allowed { IfOk result (Allows draft.now) }
+fn guest_deed(draft: &mut Draft, place: Place, guest_word: &Word, what: What) -> Result<(), Fault>
+    requires { (n : ℕ) → IsGuest draft.old.guests n → Allows draft.old (made_by n what) }
+    ensures value { Steps result draft.new (with_row place draft.old (guest_does draft.old guest_word.now what)) }
+    ensures limit { OnOk result (KeepsLimit draft.old draft.new) }
 {
     let who = guest(draft, guest_word)?;
-    Ok(Deed { who, what })
+    add_deed(draft, place, Deed { who, what })
 }
 
-fn poll(draft: &Draft, guest_word: &Word, queue: &Word) -> Result<Deed, Fault>
-    ensures value { Gives result (poll_row draft.now guest_word.now queue.now) }
-    ensures allowed { IfOk result (Allows draft.now) }
+fn poll(draft: &mut Draft, place: Place, guest_word: &Word, queue: &Word) -> Result<(), Fault>
+    ensures value { Steps result draft.new (with_row place draft.old (poll_row draft.old guest_word.now queue.now)) }
+    ensures limit { OnOk result (KeepsLimit draft.old draft.new) }
 {
     let who = guest(draft, guest_word)?;
     let queue = number(queue, 0, INDEX_LIMIT)? as u16;
-    Ok(Deed {
-        who,
-        what: What::Poll { queue },
-    })
+    add_deed(
+        draft,
+        place,
+        Deed {
+            who,
+            what: What::Poll { queue },
+        },
+    )
 }
 
-fn serve(draft: &Draft, worker_word: &Word, queue_word: &Word) -> Result<Deed, Fault>
-    ensures value { Gives result (serve_row draft.now worker_word.now queue_word.now) }
-    ensures allowed { IfOk result (Allows draft.now) }
+fn serve(
+    draft: &mut Draft,
+    place: Place,
+    worker_word: &Word,
+    queue_word: &Word,
+) -> Result<(), Fault>
+    ensures value { Steps result draft.new (with_row place draft.old (serve_row draft.old worker_word.now queue_word.now)) }
+    ensures limit { OnOk result (KeepsLimit draft.old draft.new) }
 {
     let worker = worker(draft, worker_word)?;
     let queue = queue(draft, queue_word)?;
-    Ok(Deed {
-        who: WORKERS_FROM + worker,
-        what: What::Serve { queue },
-    })
+    add_deed(
+        draft,
+        place,
+        Deed {
+            who: WORKERS_FROM + worker,
+            what: What::Serve { queue },
+        },
+    )
 }
 
 fn worker_poll(
-    draft: &Draft,
+    draft: &mut Draft,
+    place: Place,
     worker_word: &Word,
     member: &Word,
     queue: &Word,
-) -> Result<Deed, Fault>
-    ensures value { Gives result (worker_poll_row draft.now worker_word.now member.now queue.now) }
-    ensures allowed { IfOk result (Allows draft.now) }
+) -> Result<(), Fault>
+    ensures value { Steps result draft.new (with_row place draft.old (worker_poll_row draft.old worker_word.now member.now queue.now)) }
+    ensures limit { OnOk result (KeepsLimit draft.old draft.new) }
 {
     let worker = worker(draft, worker_word)?;
     let member = guest(draft, member)?;
     let queue = number(queue, 0, INDEX_LIMIT)? as u16;
-    Ok(Deed {
-        who: WORKERS_FROM + worker,
-        what: What::WorkerPoll { member, queue },
-    })
+    add_deed(
+        draft,
+        place,
+        Deed {
+            who: WORKERS_FROM + worker,
+            what: What::WorkerPoll { member, queue },
+        },
+    )
 }
 
-fn frame(alloc: Global, draft: &Draft, member: &Word, hex: &Word) -> Result<Deed, Fault>
-    ensures value { Gives result (frame_row draft.now member.now hex.now) }
-    ensures allowed { IfOk result (Allows draft.now) }
+fn frame(
+    alloc: Global,
+    draft: &mut Draft,
+    place: Place,
+    member: &Word,
+    hex: &Word,
+) -> Result<(), Fault>
+    ensures value { Steps result draft.new (with_row place draft.old (frame_row draft.old member.now hex.now)) }
+    ensures limit { OnOk result (KeepsLimit draft.old draft.new) }
 {
     let member = guest(draft, member)?;
     let frame = bytes(alloc, hex, FRAME_LEAST, FRAME_LIMIT)?;
     if !draft.is_net(member) {
         return Err(Fault::Bad(Cause::Kind));
     }
-    Ok(Deed {
-        who: HOST,
-        what: What::Frame { member, frame },
-    })
+    add_deed(
+        draft,
+        place,
+        Deed {
+            who: HOST,
+            what: What::Frame { member, frame },
+        },
+    )
 }
 
-fn flr(draft: &Draft, member: &Word) -> Result<Deed, Fault>
-    ensures value { Gives result (flr_row draft.now member.now) }
-    ensures allowed { IfOk result (Allows draft.now) }
+fn flr(draft: &mut Draft, place: Place, member: &Word) -> Result<(), Fault>
+    ensures value { Steps result draft.new (with_row place draft.old (flr_row draft.old member.now)) }
+    ensures limit { OnOk result (KeepsLimit draft.old draft.new) }
 {
     let member = guest(draft, member)?;
-    Ok(Deed {
-        who: HOST,
-        what: What::Flr { member },
-    })
+    add_deed(
+        draft,
+        place,
+        Deed {
+            who: HOST,
+            what: What::Flr { member },
+        },
+    )
 }
 
-fn disable(draft: &Draft, member: &Word) -> Result<Deed, Fault>
-    ensures value { Gives result (disable_row draft.now member.now) }
-    ensures allowed { IfOk result (Allows draft.now) }
+fn disable(draft: &mut Draft, place: Place, member: &Word) -> Result<(), Fault>
+    ensures value { Steps result draft.new (with_row place draft.old (disable_row draft.old member.now)) }
+    ensures limit { OnOk result (KeepsLimit draft.old draft.new) }
 {
     let member = guest(draft, member)?;
-    Ok(Deed {
-        who: HOST,
-        what: What::Disable { member },
-    })
+    add_deed(
+        draft,
+        place,
+        Deed {
+            who: HOST,
+            what: What::Disable { member },
+        },
+    )
 }
 
-/// A line of an actor.
-pub fn act_deed(alloc: Global, draft: &Draft, act: &Act) -> Result<Deed, Fault>
-    ensures value { Gives result (act_row draft.now act.now) }
-    ensures allowed { IfOk result (Allows draft.now) }
+/// Adds a line of an actor.
+pub fn add_act(alloc: Global, draft: &mut Draft, place: Place, act: &Act) -> Result<(), Fault>
+    ensures value { Steps result draft.new (with_row place draft.old (act_row draft.old act.now)) }
+    ensures limit { OnOk result (KeepsLimit draft.old draft.new) }
 {
     match act {
         Act::In {
@@ -346,41 +458,45 @@ pub fn act_deed(alloc: Global, draft: &Draft, act: &Act) -> Result<Deed, Fault>
             offset,
             length,
             tail,
-        } => access_in(draft, guest, offset, length, tail),
+        } => access_in(draft, place, guest, offset, length, tail),
         Act::Out {
             guest,
             offset,
             bytes,
             tail,
-        } => access_out(draft, guest, offset, bytes, tail),
-        Act::Mem { guest, addr, bytes } => mem(alloc, draft, guest, addr, bytes),
+        } => access_out(draft, place, guest, offset, bytes, tail),
+        Act::Mem { guest, addr, bytes } => mem(alloc, draft, place, guest, addr, bytes),
         Act::Peek {
             guest,
             addr,
             length,
-        } => peek(draft, guest, addr, length),
-        Act::Msix { guest, on } => guest_deed(draft, guest, What::Msix { on: *on }),
-        Act::Io { guest, on } => guest_deed(draft, guest, What::Io { on: *on }),
+        } => peek(draft, place, guest, addr, length),
+        Act::Msix { guest, on } => guest_deed(draft, place, guest, What::Msix { on: *on }),
+        Act::Io { guest, on } => guest_deed(draft, place, guest, What::Io { on: *on }),
         Act::Cfg {
             guest,
             offset,
             length,
-        } => cfg(draft, guest, offset, length),
-        Act::Irqs { guest } => guest_deed(draft, guest, What::Irqs),
-        Act::Poll { guest, queue } => poll(draft, guest, queue),
-        Act::Serve { worker, queue } => serve(draft, worker, queue),
+        } => cfg(draft, place, guest, offset, length),
+        Act::Irqs { guest } => guest_deed(draft, place, guest, What::Irqs),
+        Act::Poll { guest, queue } => poll(draft, place, guest, queue),
+        Act::Serve { worker, queue } => serve(draft, place, worker, queue),
         Act::WorkerPoll {
             worker,
             member,
             queue,
-        } => worker_poll(draft, worker, member, queue),
-        Act::Frame { member, frame: hex } => frame(alloc, draft, member, hex),
-        Act::Flr { member } => flr(draft, member),
-        Act::Disable { member } => disable(draft, member),
-        Act::Reset => Ok(Deed {
-            who: HOST,
-            what: What::Reset,
-        }),
+        } => worker_poll(draft, place, worker, member, queue),
+        Act::Frame { member, frame: hex } => frame(alloc, draft, place, member, hex),
+        Act::Flr { member } => flr(draft, place, member),
+        Act::Disable { member } => disable(draft, place, member),
+        Act::Reset => add_deed(
+            draft,
+            place,
+            Deed {
+                who: HOST,
+                what: What::Reset,
+            },
+        ),
     }
 }
 

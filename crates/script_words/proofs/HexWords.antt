@@ -7,7 +7,7 @@ use Rattle.std.proofs.lemmas.List.Sums.{AllPass-from_list_all, list_all-from_All
 use Rattle.hex.specs.Hex.{decode_of, is_hex_digit, IsBytes}
 use Rattle.hex.specs.declared.error.FromHexError.{FromHexError}
 use Rattle.hex.proofs.HexLemmas.{decode_of-ok, decode_of-digits}
-use Rattle.board_text.specs.Hex.{hex_bytes, hex_piece, short_bytes}
+use Rattle.board_text.specs.Hex.{hex_bytes, hex_piece, short_bytes, FillsPiece}
 
 hex_bytes-some : (text : List ℕ) → (length text == 0) ≡ false → hex_bytes text ≡ result_ok (decode_of text)
 hex_bytes-some text some = ap (λ (empty : Bool). cond empty None (result_ok (decode_of text))) some
@@ -43,3 +43,7 @@ short_of (Some found) text bytes e is = subst IsBytes (few_of _ found bytes is) 
 
 pub hex_piece-each : (text bytes : List ℕ) → hex_piece text ≡ Some bytes → IsBytes bytes
 hex_piece-each text bytes is = short_of (hex_bytes text) text bytes refl is
+
+pub filled-each : (good : Bool) (text bytes : List ℕ) → FillsPiece good bytes (hex_piece text) → good ≡ true → IsBytes bytes
+filled-each true text bytes is e = hex_piece-each text bytes is
+filled-each false text bytes is e = absurd cc

@@ -3,3 +3,4 @@ pub mod Shape
 pub mod Values
 pub mod Causes
 pub mod Texts
+pub mod Kept

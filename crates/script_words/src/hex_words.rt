@@ -1,14 +1,14 @@
 //! What a word stands for where it must be hex.
-ghost use Rattle.std.specs.Prelude.{◌≡◌, ◌≤◌, IfOk, length, is_some, None, IsSome};
+ghost use Rattle.std.specs.Prelude.{◌≡◌, ◌≤◌, IfOk, OnOk, length, is_some, None, IsSome};
 ghost use Rattle.std.specs.List.{list_all};
 ghost use Rattle.hex.specs.Hex.{is_hex_digit, IsBytes};
 ghost use Rattle.board_text.specs.Hex.{hex_bytes};
-ghost use Rattle.script_words.specs.Values.{Gives, bytes_in, bytes_of_width};
+ghost use Rattle.script_words.specs.Values.{Gives, Steps, bytes_in, bytes_of_width};
 
 use crate::cause::{Cause, Fault};
 use crate::values::is_width;
 use crate::words::Word;
-use board_text::{Bytes, HexFault, Piece, read_hex, read_hex_piece};
+use board_text::{Bytes, HexFault, Piece, read_hex};
 use std::alloc::Global;
 
 /// Bytes of a number within bounds, of any number. `hex` where the word spells no bytes, `range` where it
@@ -61,6 +61,26 @@ fn fault_without_piece(word: &Word) -> Fault
     }
 }
 
+/// Puts the bytes that a word spells into a piece: a number of bytes within bounds, of at most 256. It takes no
+/// memory. After an error some bytes stand in the piece.
+pub fn fill_piece(word: &Word, low: usize, high: usize, piece: &mut Piece) -> Result<(), Fault>
+    requires { high ≤ 256 }
+    ensures value { Steps result piece.new (bytes_in low high word.now) }
+    ensures each { OnOk result (IsBytes piece.new) }
+    ensures low { OnOk result (low ≤ length piece.new) }
+    ensures high { OnOk result (length piece.new ≤ high) }
+{
+    if !piece.read_hex(word.bytes()) {
+        return Err(fault_without_piece(word));
+    }
+    let length = piece.as_slice().len();
+    if low <= length && length <= high {
+        Ok(())
+    } else {
+        Err(Fault::Bad(Cause::Range))
+    }
+}
+
 /// Bytes of a number within bounds, of at most 256. It takes no memory.
 pub fn piece(word: &Word, low: usize, high: usize) -> Result<Piece, Fault>
     requires { high ≤ 256 }
@@ -69,12 +89,22 @@ pub fn piece(word: &Word, low: usize, high: usize) -> Result<Piece, Fault>
     ensures low { IfOk result (λ b. low ≤ length b) }
     ensures high { IfOk result (λ b. length b ≤ high) }
 {
-    let Some(bytes) = read_hex_piece(word.bytes()) else {
+    let mut piece = Piece::new();
+    fill_piece(word, low, high, &mut piece)?;
+    Ok(piece)
+}
+
+/// Puts the 1, 2 or 4 bytes that a word spells into a piece. It takes no memory. After an error some bytes stand
+/// in the piece.
+pub fn fill_short_bytes(word: &Word, piece: &mut Piece) -> Result<(), Fault>
+    ensures value { Steps result piece.new (bytes_of_width (hex_bytes word.now)) }
+    ensures each { OnOk result (IsBytes piece.new) }
+{
+    if !piece.read_hex(word.bytes()) {
         return Err(fault_without_piece(word));
-    };
-    let length = bytes.as_slice().len();
-    if low <= length && length <= high {
-        Ok(bytes)
+    }
+    if is_width(piece.as_slice().len() as u64) {
+        Ok(())
     } else {
         Err(Fault::Bad(Cause::Range))
     }
@@ -85,12 +115,7 @@ pub fn short_bytes(word: &Word) -> Result<Piece, Fault>
     ensures value { Gives result (bytes_of_width (hex_bytes word.now)) }
     ensures each { IfOk result IsBytes }
 {
-    let Some(bytes) = read_hex_piece(word.bytes()) else {
-        return Err(fault_without_piece(word));
-    };
-    if is_width(bytes.as_slice().len() as u64) {
-        Ok(bytes)
-    } else {
-        Err(Fault::Bad(Cause::Range))
-    }
+    let mut piece = Piece::new();
+    fill_short_bytes(word, &mut piece)?;
+    Ok(piece)
 }

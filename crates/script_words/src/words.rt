@@ -3,8 +3,9 @@ ghost use Rattle.std.specs.Prelude.{◌≡◌, ◌∷◌, [], ◌==◌, MatchOpt
 ghost use Rattle.std.specs.Str.{bytes_eq};
 ghost use Rattle.std.specs.List.{list_all};
 ghost use Rattle.std.specs.Char.{is_ascii_digit};
-ghost use Rattle.script_words.specs.Words.{words_of, are_words, is_word, is_printable, after_at_of, are_digits as are_digits_of, head_of, one_of, two_of, three_of};
+ghost use Rattle.script_words.specs.Words.{words_of, are_words, after_at_of, are_digits as are_digits_of, head_of, one_of, two_of, three_of};
 
+use crate::plain::{has_space, is_plain};
 use std::marker::Model;
 
 /// A word of a line, which is a part of the text.
@@ -41,16 +42,6 @@ impl<'a> Word<'a> {
         self.bytes == name
     }
 
-    // Whether a word may stand in a line: it has a byte, and all are printable.
-    fn is_plain(&self) -> bool
-        ensures { result ≡ is_word self.now }
-    {
-        match self.bytes.split_first() {
-            Some(_) => are_printable(self.bytes),
-            None => false,
-        }
-    }
-
     /// What follows `@`.
     pub fn after_at(&self) -> Option<Word<'a>>
         ensures { result ≡ after_at_of self.now }
@@ -70,12 +61,6 @@ pub enum Head<'a> {
     Guest(Word<'a>),
     Worker(Word<'a>),
     Name,
-}
-
-fn are_printable(text: &[u8]) -> bool
-    ensures { result ≡ list_all is_printable text.now }
-{
-    text.iter().all(|byte| matches!(*byte, 33..=126))
 }
 
 fn all_digits(text: &[u8]) -> bool
@@ -194,8 +179,13 @@ impl<'a> Words<'a> {
     pub fn one(self) -> Option<Word<'a>>
         ensures { result ≡ one_of self.entry }
     {
-        let (first, rest) = self.split()?;
-        if rest.is_ended() { Some(first) } else { None }
+        if self.ended {
+            return None;
+        }
+        if has_space(self.rest) {
+            return None;
+        }
+        Some(Word { bytes: self.rest })
     }
 
     /// The two words that are left.
@@ -203,12 +193,8 @@ impl<'a> Words<'a> {
         ensures { result ≡ two_of self.entry }
     {
         let (first, rest) = self.split()?;
-        let (second, rest) = rest.split()?;
-        if rest.is_ended() {
-            Some((first, second))
-        } else {
-            None
-        }
+        let second = rest.one()?;
+        Some((first, second))
     }
 
     /// The three words that are left.
@@ -216,13 +202,8 @@ impl<'a> Words<'a> {
         ensures { result ≡ three_of self.entry }
     {
         let (first, rest) = self.split()?;
-        let (second, rest) = rest.split()?;
-        let (third, rest) = rest.split()?;
-        if rest.is_ended() {
-            Some((first, second, third))
-        } else {
-            None
-        }
+        let (second, third) = rest.two()?;
+        Some((first, second, third))
     }
 }
 
@@ -230,12 +211,8 @@ impl<'a> Words<'a> {
 pub fn are_plain(words: Words) -> bool
     ensures { result ≡ are_words words.entry }
 {
-    let mut left = words;
-    'words: while let Some((word, rest)) = left.split() {
-        if !word.is_plain() {
-            return false;
-        }
-        left = rest;
+    if words.ended {
+        return true;
     }
-    true
+    is_plain(words.rest)
 }
