@@ -1,6 +1,6 @@
 -- What a run says of a queue, after one entry more.
 use Rattle.std.proofs.Common.{◌≡◌, ℕ, ◌+◌, ◌%◌, Bool, true, false, cond, List, [], ◌∷◌, refl, sym, ap, ◌∙◌, arith}
-use Rattle.std.specs.Prelude.{◌==◌, ◌||◌, ◌&&◌, length, Option, None, Some, slice_index_or}
+use Rattle.std.specs.Prelude.{◌==◌, ◌||◌, ◌&&◌, length, None, slice_index_or}
 use Rattle.std.specs.List.{list_any}
 use Rattle.history.specs.Look.{count, after_latest}
 use Rattle.admin_wire.specs.declared.command.LegacyCmd.TheVariants.{CommonWrite, CommonRead, DevWrite, DevRead, Info}

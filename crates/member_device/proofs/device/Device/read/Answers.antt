@@ -1,4 +1,3 @@
-use Rattle.std.proofs.Common.{◌∙◌}
 use Rattle.member_device.specs.Device.{Holdings}
 use Rattle.member_device.proofs.Accesses.{with_registers, registers_read, waiting_read}
 use Rattle.member_device.proofs.device.Device.read.Goals as goal

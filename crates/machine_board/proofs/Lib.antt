@@ -1,0 +1,4 @@
+pub mod Owners
+pub mod Services
+pub mod Accesses
+pub mod Lines

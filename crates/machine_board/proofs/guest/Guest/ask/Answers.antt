@@ -1,0 +1,20 @@
+use Rattle.std.proofs.Common.{◌≡◌, ◌≤◌, true, sym, ap, ◌∙◌, subst}
+use Rattle.std.specs.Prelude.{is_none}
+use Rattle.group_calls.specs.Limits.{writable_limit}
+use Rattle.vfio_driver.specs.Access.{is_open}
+use Rattle.machine_board.specs.Ways.{queue_in, room_in}
+use Rattle.machine_board.proofs.Accesses.{none_is, turns}
+use Rattle.machine_board.proofs.guest.Guest.ask.Goals as goal
+
+pub invariant_of-self : goal.invariant_of-self
+invariant_of-self c =
+    let d = c.args.self.now.driver in
+    let stage = c.feed-answer.ensures.stage in
+    let opens : is_open d.stage ≡ true = sym c.args.self.now.opened ∙ c.requires in
+    let turn = turns d.known d.stage c.answer-told.result opens (c.args.self.now.queue, c.args.self.now.room) in
+    record {
+      guest = c.feed-answer.ensures.guest ∙ c.args.self.now.guest;
+      queue = ap queue_in stage ∙ turn.0.0;
+      room = subst (λ s. room_in s ≤ writable_limit) (sym stage) turn.0.1;
+      opened = none_is c.feed-answer.result c.is_none-self.result c.is_none-self.ensures ∙ ap is_none c.feed-answer.ensures.answer ∙ sym turn.1 ∙ ap is_open (sym stage);
+    }

@@ -1,0 +1,25 @@
+use Rattle.std.proofs.Common.{◌≡◌, ◌<◌, Some, sym, ◌∙◌, subst}
+use Rattle.host_machine.specs.Machine.{next_ask}
+use Rattle.machine_board.specs.Ways.{IsWayHere, line_left}
+use Rattle.machine_board.proofs.Lines.{host_turns}
+use Rattle.machine_board.proofs.host_line.perform.Goals as goal
+
+pub line-preserved : goal.line-preserved
+line-preserved c =
+    let host = c.line.host in
+    let here = c.line.invariant in
+    let asked : Some c.in-Some.ask ≡ next_ask host.going = sym c.in-Some.is ∙ c.in_ok-ask.ensures.ok in
+    let turns = host_turns host.members host.queues host.going c.in-Some.ask c.answer-told.result here.members here.queues host.room host.some_queue asked in
+    record {
+      members = c.feed.ensures.members ∙ here.members;
+      queues = c.feed.ensures.queues ∙ here.queues;
+      here = subst (λ g. IsWayHere g.way) (sym c.feed.ensures.going) turns.0;
+    }
+
+pub line-smaller : goal.line-smaller
+line-smaller c =
+    let host = c.line.host in
+    let here = c.line.invariant in
+    let asked : Some c.in-Some.ask ≡ next_ask host.going = sym c.in-Some.is ∙ c.in_ok-ask.ensures.ok in
+    let turns = host_turns host.members host.queues host.going c.in-Some.ask c.answer-told.result here.members here.queues host.room host.some_queue asked in
+    subst (λ g. line_left g.way < line_left host.going.way) (sym c.feed.ensures.going) turns.1

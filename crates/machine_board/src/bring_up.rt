@@ -1,0 +1,49 @@
+//! Bring-up of the group.
+
+use crate::cells::{Cells, MEMBER};
+use crate::service::serve;
+use group_calls::{Ask, OwnerCall, RingReply, Told};
+use vfio_driver::{BringUp, Brought};
+
+/// The actor's number of the board.
+pub(crate) const BOARD: u32 = 0;
+
+/// After so many asks nothing more is tried: each command of bring-up takes three where nothing else is posted.
+const TRY_LIMIT: u32 = 300;
+
+// A service has to come first.
+fn is_waiting(told: &Told) -> bool {
+    match told {
+        Told::Queue(placed) => matches!(placed.reply, RingReply::Full | RingReply::NotYet),
+        _ => false,
+    }
+}
+
+// The list commands where the member is 0, else its notify information.
+fn bring(cells: &mut Cells, member: u32) -> Option<Brought> {
+    let mut commands = BringUp::new(member);
+    'asks: for _ in 0..TRY_LIMIT {
+        let ask = commands.next();
+        let told = cells.answer(BOARD, ask);
+        let waits = is_waiting(&told);
+        let brought = commands.feed(told);
+        if brought.is_some() {
+            return brought;
+        }
+        if waits {
+            serve(cells, BOARD);
+        }
+    }
+    None
+}
+
+/// One virtual function from now on, then the list commands, then the notify information of member 1. Nothing where a
+/// command isn't completed for long.
+pub(crate) fn bring_up(cells: &mut Cells) -> Option<Brought> {
+    let count = Ask::Owner(OwnerCall::SetVfs { count: MEMBER });
+    let _told = cells.answer(BOARD, count);
+    match bring(cells, 0) {
+        Some(Brought::Ready { .. }) => bring(cells, MEMBER),
+        brought => brought,
+    }
+}
