@@ -1,5 +1,5 @@
 -- A line of an actor, added as it is read. Of this project.
-use Rattle.std.specs.Prelude.{ℕ, Result}
+use Rattle.std.specs.Prelude.{Result}
 use Rattle.script_words.specs.declared.cause.Cause.{Cause}
 use Rattle.script_words.specs.Values.{◌>>=◌}
 use Rattle.board_script.specs.declared.rows.Deed.{Deed}

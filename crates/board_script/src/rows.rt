@@ -2,7 +2,7 @@
 ghost use Rattle.std.specs.Prelude.{◌≡◌, ℕ, ◌≤◌, ◌<◌, ◌+◌, nat_le, IfOk, OnOk, length};
 ghost use Rattle.std.specs.List.{sum_by};
 ghost use Rattle.script_words.specs.Values.{Gives, Steps};
-ghost use Rattle.board_script.specs.Limits.{worker_limit, mac_length};
+ghost use Rattle.board_script.specs.Limits.{worker_limit, mac_length, the_host};
 ghost use Rattle.board_script.specs.SoFar.{queues_at, workers_at, guest_at, worker_at, queue_at, is_net};
 ghost use Rattle.board_script.specs.Bounds.{IsBoard, IsSetup, IsGuest, IsQueue, IsActor, IsTurns, Allows, KeepsLimit};
 ghost use Rattle.board_script.specs.Script.{has_room as has_room_of, with_line};
@@ -23,7 +23,7 @@ use script_words::{
 };
 use std::alloc::Global;
 
-// What an actor does.
+// What an actor does, as contracts name it.
 #[derive(Debug, Drop)]
 pub struct Deed {
     pub who: u32,
@@ -47,20 +47,15 @@ fn has_room(used: Use, draft: &Draft) -> bool
 }
 
 // Adds a line, which is made where it is handed over: one that is handed up through a result is copied each time.
-#[inline(never)]
-fn add_deed(draft: &mut Draft, place: Place, deed: Deed) -> Result<(), Fault>
-    requires { Allows draft.old deed }
-    ensures value { Steps result draft.new (with_line place.used place.number draft.old deed) }
+#[inline(always)]
+fn add(draft: &mut Draft, used: Use, line: ActorLine) -> Result<(), Fault>
+    requires { Allows draft.old (made_by line.who line.what) }
+    ensures value { Steps result draft.new (with_line used line.number draft.old (made_by line.who line.what)) }
     ensures limit { OnOk result (KeepsLimit draft.old draft.new) }
 {
-    if !has_room(place.used, draft) {
+    if !has_room(used, draft) {
         return Err(Fault::Bad(Cause::Limit));
     }
-    let line = ActorLine {
-        number: place.number,
-        who: deed.who,
-        what: deed.what,
-    };
     match draft.add_line(line) {
         Ok(()) => Ok(()),
         Err(_) => Err(Fault::NoMemory),
@@ -188,10 +183,11 @@ fn access_in(
     let offset = number(offset, 0, OFFSET_LIMIT)? as u8;
     let length = width(length)?;
     let queue = queue_of_tail(draft, &tail.queue)?;
-    add_deed(
+    add(
         draft,
-        place,
-        Deed {
+        place.used,
+        ActorLine {
+            number: place.number,
             who,
             what: What::BarRead {
                 offset,
@@ -219,10 +215,11 @@ fn access_out(
     let mut bytes = Piece::new();
     fill_short_bytes(hex, &mut bytes)?;
     let queue = queue_of_tail(draft, &tail.queue)?;
-    add_deed(
+    add(
         draft,
-        place,
-        Deed {
+        place.used,
+        ActorLine {
+            number: place.number,
             who,
             what: What::BarWrite {
                 offset,
@@ -261,10 +258,11 @@ fn mem(
     if !lies_in(addr, bytes.as_slice().len() as u64, draft.memory(who)) {
         return Err(Fault::Bad(Cause::Range));
     }
-    add_deed(
+    add(
         draft,
-        place,
-        Deed {
+        place.used,
+        ActorLine {
+            number: place.number,
             who,
             what: What::Mem { addr, bytes },
         },
@@ -287,10 +285,11 @@ fn peek(
     if !lies_in(addr, length, draft.memory(who)) {
         return Err(Fault::Bad(Cause::Range));
     }
-    add_deed(
+    add(
         draft,
-        place,
-        Deed {
+        place.used,
+        ActorLine {
+            number: place.number,
             who,
             what: What::Peek {
                 addr,
@@ -313,23 +312,63 @@ fn cfg(
     let who = guest(draft, guest_word)?;
     let offset = number(offset, 0, OFFSET_LIMIT)? as u8;
     let length = width(length)?;
-    add_deed(
+    add(
         draft,
-        place,
-        Deed {
+        place.used,
+        ActorLine {
+            number: place.number,
             who,
             what: What::Cfg { offset, length },
         },
     )
 }
 
-fn guest_deed(draft: &mut Draft, place: Place, guest_word: &Word, what: What) -> Result<(), Fault>
-    requires { (n : ℕ) → IsGuest draft.old.guests n → Allows draft.old (made_by n what) }
-    ensures value { Steps result draft.new (with_row place draft.old (guest_does draft.old guest_word.now what)) }
+fn msix(draft: &mut Draft, place: Place, guest_word: &Word, on: bool) -> Result<(), Fault>
+    ensures value { Steps result draft.new (with_row place draft.old (guest_does draft.old guest_word.now (What.Msix on))) }
     ensures limit { OnOk result (KeepsLimit draft.old draft.new) }
 {
     let who = guest(draft, guest_word)?;
-    add_deed(draft, place, Deed { who, what })
+    add(
+        draft,
+        place.used,
+        ActorLine {
+            number: place.number,
+            who,
+            what: What::Msix { on },
+        },
+    )
+}
+
+fn io(draft: &mut Draft, place: Place, guest_word: &Word, on: bool) -> Result<(), Fault>
+    ensures value { Steps result draft.new (with_row place draft.old (guest_does draft.old guest_word.now (What.Io on))) }
+    ensures limit { OnOk result (KeepsLimit draft.old draft.new) }
+{
+    let who = guest(draft, guest_word)?;
+    add(
+        draft,
+        place.used,
+        ActorLine {
+            number: place.number,
+            who,
+            what: What::Io { on },
+        },
+    )
+}
+
+fn irqs(draft: &mut Draft, place: Place, guest_word: &Word) -> Result<(), Fault>
+    ensures value { Steps result draft.new (with_row place draft.old (guest_does draft.old guest_word.now What.Irqs)) }
+    ensures limit { OnOk result (KeepsLimit draft.old draft.new) }
+{
+    let who = guest(draft, guest_word)?;
+    add(
+        draft,
+        place.used,
+        ActorLine {
+            number: place.number,
+            who,
+            what: What::Irqs,
+        },
+    )
 }
 
 fn poll(draft: &mut Draft, place: Place, guest_word: &Word, queue: &Word) -> Result<(), Fault>
@@ -338,10 +377,11 @@ fn poll(draft: &mut Draft, place: Place, guest_word: &Word, queue: &Word) -> Res
 {
     let who = guest(draft, guest_word)?;
     let queue = number(queue, 0, INDEX_LIMIT)? as u16;
-    add_deed(
+    add(
         draft,
-        place,
-        Deed {
+        place.used,
+        ActorLine {
+            number: place.number,
             who,
             what: What::Poll { queue },
         },
@@ -359,10 +399,11 @@ fn serve(
 {
     let worker = worker(draft, worker_word)?;
     let queue = queue(draft, queue_word)?;
-    add_deed(
+    add(
         draft,
-        place,
-        Deed {
+        place.used,
+        ActorLine {
+            number: place.number,
             who: WORKERS_FROM + worker,
             what: What::Serve { queue },
         },
@@ -382,10 +423,11 @@ fn worker_poll(
     let worker = worker(draft, worker_word)?;
     let member = guest(draft, member)?;
     let queue = number(queue, 0, INDEX_LIMIT)? as u16;
-    add_deed(
+    add(
         draft,
-        place,
-        Deed {
+        place.used,
+        ActorLine {
+            number: place.number,
             who: WORKERS_FROM + worker,
             what: What::WorkerPoll { member, queue },
         },
@@ -407,10 +449,11 @@ fn frame(
     if !draft.is_net(member) {
         return Err(Fault::Bad(Cause::Kind));
     }
-    add_deed(
+    add(
         draft,
-        place,
-        Deed {
+        place.used,
+        ActorLine {
+            number: place.number,
             who: HOST,
             what: What::Frame { member, frame },
         },
@@ -422,10 +465,11 @@ fn flr(draft: &mut Draft, place: Place, member: &Word) -> Result<(), Fault>
     ensures limit { OnOk result (KeepsLimit draft.old draft.new) }
 {
     let member = guest(draft, member)?;
-    add_deed(
+    add(
         draft,
-        place,
-        Deed {
+        place.used,
+        ActorLine {
+            number: place.number,
             who: HOST,
             what: What::Flr { member },
         },
@@ -437,12 +481,28 @@ fn disable(draft: &mut Draft, place: Place, member: &Word) -> Result<(), Fault>
     ensures limit { OnOk result (KeepsLimit draft.old draft.new) }
 {
     let member = guest(draft, member)?;
-    add_deed(
+    add(
         draft,
-        place,
-        Deed {
+        place.used,
+        ActorLine {
+            number: place.number,
             who: HOST,
             what: What::Disable { member },
+        },
+    )
+}
+
+fn reset(draft: &mut Draft, place: Place) -> Result<(), Fault>
+    ensures value { Steps result draft.new (with_row place draft.old (Ok (made_by the_host What.Reset))) }
+    ensures limit { OnOk result (KeepsLimit draft.old draft.new) }
+{
+    add(
+        draft,
+        place.used,
+        ActorLine {
+            number: place.number,
+            who: HOST,
+            what: What::Reset,
         },
     )
 }
@@ -471,14 +531,14 @@ pub fn add_act(alloc: Global, draft: &mut Draft, place: Place, act: &Act) -> Res
             addr,
             length,
         } => peek(draft, place, guest, addr, length),
-        Act::Msix { guest, on } => guest_deed(draft, place, guest, What::Msix { on: *on }),
-        Act::Io { guest, on } => guest_deed(draft, place, guest, What::Io { on: *on }),
+        Act::Msix { guest, on } => msix(draft, place, guest, *on),
+        Act::Io { guest, on } => io(draft, place, guest, *on),
         Act::Cfg {
             guest,
             offset,
             length,
         } => cfg(draft, place, guest, offset, length),
-        Act::Irqs { guest } => guest_deed(draft, place, guest, What::Irqs),
+        Act::Irqs { guest } => irqs(draft, place, guest),
         Act::Poll { guest, queue } => poll(draft, place, guest, queue),
         Act::Serve { worker, queue } => serve(draft, place, worker, queue),
         Act::WorkerPoll {
@@ -489,14 +549,7 @@ pub fn add_act(alloc: Global, draft: &mut Draft, place: Place, act: &Act) -> Res
         Act::Frame { member, frame: hex } => frame(alloc, draft, place, member, hex),
         Act::Flr { member } => flr(draft, place, member),
         Act::Disable { member } => disable(draft, place, member),
-        Act::Reset => add_deed(
-            draft,
-            place,
-            Deed {
-                who: HOST,
-                what: What::Reset,
-            },
-        ),
+        Act::Reset => reset(draft, place),
     }
 }
 

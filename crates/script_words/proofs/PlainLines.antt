@@ -2,7 +2,7 @@
 use Rattle.std.proofs.Common.{◌≡◌, ℕ, ◌+◌, ◌<◌, ◌≤◌, Bool, true, false, not, cond, List, [], ◌∷◌, length, get_or, drop, refl, ◌∙◌, arith, inl, inr}
 use Rattle.std.specs.Prelude.{◌==◌, ◌&&◌, ◌||◌, nat_le}
 use Rattle.std.specs.List.{list_all, onto_first}
-use Rattle.std.proofs.lemmas.Bool.{cases_lt, eqb-true, eqb-false, le-leb, lt-leb}
+use Rattle.std.proofs.lemmas.Bool.{cases_lt, eqb-true, eqb-false, ne_eqb, le-leb, lt-leb}
 use Rattle.std.proofs.lemmas.List.{drop_more, drop_all}
 use Rattle.script_words.specs.Words.{words_of, are_words, is_printable}
 use Rattle.script_words.specs.Kept.{may_follow, goes_on}
@@ -95,6 +95,12 @@ goes_on-none before (byte ∷ rest) = goes_on-none byte rest
 
 pub goes_on-stops : (text : List ℕ) (place before : ℕ) → place < length text → may_follow before (get_or text place 0) ≡ false → goes_on true before (drop place text) ≡ false
 goes_on-stops text place before lt h = goes_on-more text place true before lt ∙ rw h (goes_on-none (get_or text place 0) (drop (place + 1) text))
+
+pub two_spaces : (before byte : ℕ) → before ≡ 32 → byte ≡ 32 → may_follow before byte ≡ false
+two_spaces before byte e f = rw (e, f) refl
+
+pub unprintable : (before byte : ℕ) → (byte ≡ 32 → ⊥) → is_printable byte ≡ false → may_follow before byte ≡ false
+unprintable before byte other fails = rw (other_in_line byte (ne_eqb byte 32 other), fails) refl
 
 pub goes_on-ended : (text : List ℕ) (place : ℕ) (good : Bool) (before : ℕ) → length text ≤ place → goes_on good before (drop place text) ≡ (good && not (before == 32))
 goes_on-ended text place good before le = rw (drop_all place text le) refl

@@ -1,7 +1,7 @@
 //! Whether all words of a line may stand there, by its bytes alone.
 ghost use Rattle.std.specs.Prelude.{◌≡◌, ◌==◌, true};
 ghost use Rattle.std.specs.List.{list_any};
-ghost use Rattle.script_words.specs.Words.{words_of, are_words};
+ghost use Rattle.script_words.specs.Words.{words_of, are_words, is_printable as is_printable_of};
 ghost use Rattle.script_words.specs.Kept.{may_follow as may_follow_of, goes_on};
 
 // From how many bytes on all bytes of a line are looked at, several at a time, in place of one after another up to the
@@ -15,12 +15,22 @@ fn may_follow(before: u8, byte: u8) -> bool
     matches!(byte, b' '..=b'~') & ((before != b' ') | (byte != b' '))
 }
 
+fn is_printable(byte: u8) -> bool
+    ensures { result ≡ is_printable_of byte }
+{
+    matches!(byte, b'!'..=b'~')
+}
+
 fn is_plain_short(line: &[u8]) -> bool
     ensures { result ≡ goes_on true 32 line.now }
 {
     let mut before = b' ';
     'bytes: for byte in line {
-        if !may_follow(before, *byte) {
+        if *byte == b' ' {
+            if before == b' ' {
+                return false;
+            }
+        } else if !is_printable(*byte) {
             return false;
         }
         before = *byte;
