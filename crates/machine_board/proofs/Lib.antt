@@ -1,4 +1,4 @@
 pub mod Owners
 pub mod Services
-pub mod Accesses
+pub mod Drivers
 pub mod Lines

@@ -1,6 +1,5 @@
 -- A line of the host on these cells.
-use Rattle.std.proofs.Common.{◌≡◌, ℕ, ◌+◌, ◌≤◌, ◌<◌, List, [], ◌∷◌, ◌++◌, length, Option, None, Some, refl, sym, subst, arith, lit<, rules}
-use Rattle.std.specs.Prelude.{nat_lt}
+use Rattle.std.proofs.Common.{◌≡◌, ℕ, ◌+◌, ◌≤◌, ◌<◌, List, [], ◌∷◌, ◌++◌, length, Some, sym, subst, arith, lit<}
 use Rattle.group_calls.specs.declared.ask.Ask.{Ask}
 use Rattle.group_calls.specs.declared.ask.Ask.TheVariants.{Owner, Queue, Member}
 use Rattle.group_calls.specs.declared.ask.Told.{Told}

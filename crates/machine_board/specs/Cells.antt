@@ -1,6 +1,5 @@
 -- The cells of a group of one member with one administration queue, and what an ask does to them. Of this project.
 use Rattle.std.specs.Prelude.{◌≡◌, ℕ, ◌≤◌, List, [], ◌∷◌}
-use Rattle.history.specs.declared.entry.Entry.{Entry}
 use Rattle.history.specs.Legal.{Cell, IsAnswered, never_quiet}
 use Rattle.group_calls.specs.Limits.{writable_limit}
 use Rattle.group_calls.specs.declared.owner.OwnerCall.{OwnerCall}

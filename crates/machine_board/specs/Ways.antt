@@ -10,7 +10,6 @@ use Rattle.vfio_driver.specs.declared.access.Started.TheVariants.{Local, Asks}
 use Rattle.host_machine.specs.declared.line.HostLine.{HostLine}
 use Rattle.host_machine.specs.declared.line.HostLine.TheVariants.{Frame, Flr, Disable, Reset}
 use Rattle.host_machine.specs.declared.going.Way.{Way}
-use Rattle.host_machine.specs.declared.going.Way.TheVariants as Way
 
 -- ---- a service
 

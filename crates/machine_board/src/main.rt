@@ -3,10 +3,12 @@
 //! performs so many accesses, so that their cost can be measured.
 //!
 //! It stands on the cells (`owner_core`, `admin_ring`, `member_core`) and on the machines that ask them (`vfio_driver`,
-//! `serve_machine`, `host_machine`). Its main clauses are those of `Cells::answer`, an ask is one call on one cell, and of
-//! `serve`, what a service asks is a service by the grammar.
+//! `serve_machine`, `host_machine`). Its main clauses are those of `Cells::answer`, an ask is one call on one cell, of
+//! `serve`, what a service asks is a service by the grammar, and of `Guest::ask`, an ask of the driver is followed by a
+//! service just where its command isn't completed.
 #![tactic(auto)]
 
+mod accesses;
 mod asking;
 mod bring_up;
 mod cells;

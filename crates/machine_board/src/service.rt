@@ -1,8 +1,7 @@
 //! A whole service of the queue.
-ghost use Rattle.std.specs.Prelude.{◌<◌, List};
+ghost use Rattle.std.specs.Prelude.{◌<◌};
 ghost use Rattle.history.specs.Limits.{actor_limit};
-ghost use Rattle.serve_machine.specs.Grammar.{Exchange, IsAnsweredService};
-ghost use Rattle.machine_board.specs.Cells.{AreAskedInTurn};
+ghost use Rattle.machine_board.specs.Guest.{IsServed};
 
 use crate::cells::{Cells, QUEUE};
 use serve_machine::Server;
@@ -11,7 +10,7 @@ use serve_machine::laws::the_machine_asks_what_the_grammar_has;
 /// One service by an actor, until it has ended: what it asks is a service by the grammar, each ask a call on its cell.
 pub(crate) fn serve(cells: &mut Cells, who: u32)
     requires { who < actor_limit }
-    ensures { (xs : List Exchange) × IsAnsweredService 0 xs × AreAskedInTurn cells.old cells.new who xs }
+    ensures { IsServed who cells.old cells.new }
 {
     the_machine_asks_what_the_grammar_has();
     let mut server = Server::new(QUEUE);

@@ -1,6 +1,6 @@
-use Rattle.std.proofs.Common.{◌≡◌, ◌<◌, sym, ◌∙◌, subst}
+use Rattle.std.proofs.Common.{◌<◌, sym, ◌∙◌, subst}
 use Rattle.machine_board.specs.Ways.{asks_left, ActsHere}
-use Rattle.machine_board.proofs.Services.{longer, whole, server_here, fewer_left, still_acts}
+use Rattle.machine_board.proofs.Services.{longer, server_here, fewer_left, still_acts}
 use Rattle.machine_board.proofs.service.serve.Goals as goal
 
 pub answer-told-requires-clause-here : goal.answer-told-requires-clause-here

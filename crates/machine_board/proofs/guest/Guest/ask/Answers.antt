@@ -3,7 +3,8 @@ use Rattle.std.specs.Prelude.{is_none}
 use Rattle.group_calls.specs.Limits.{writable_limit}
 use Rattle.vfio_driver.specs.Access.{is_open}
 use Rattle.machine_board.specs.Ways.{queue_in, room_in}
-use Rattle.machine_board.proofs.Accesses.{none_is, turns}
+use Rattle.machine_board.specs.Guest.{IsFollowed}
+use Rattle.machine_board.proofs.Drivers.{none_is, turns}
 use Rattle.machine_board.proofs.guest.Guest.ask.Goals as goal
 
 pub invariant_of-self : goal.invariant_of-self
@@ -18,3 +19,16 @@ invariant_of-self c =
       room = subst (λ s. room_in s ≤ writable_limit) (sym stage) turn.0.1;
       opened = none_is c.feed-answer.result c.is_none-self.result c.is_none-self.ensures ∙ ap is_none c.feed-answer.ensures.answer ∙ sym turn.1 ∙ ap is_open (sym stage);
     }
+
+pub returns-clause-asked : goal.returns-clause-asked
+returns-clause-asked c = record {
+  ask = c.next-ask.result;
+  told = c.answer-told.result;
+  between = c.answer-told.new.self;
+  next = sym c.next-ask.ensures;
+  asked = c.answer-told.ensures.asked;
+  stage = c.feed-answer.ensures.stage;
+  known = c.feed-answer.ensures.known;
+  answered = c.feed-answer.ensures.answer;
+  followed = subst (λ b. IsFollowed b c.answer-told.new.self c.follow.new.cells) c.is_not_yet-waits.ensures c.follow.ensures;
+}

@@ -3,7 +3,7 @@ use Rattle.group_calls.specs.Limits.{writable_limit}
 use Rattle.io_bar.specs.Route.{count_of, is_port_width, route_of}
 use Rattle.vfio_driver.specs.Access.{is_open}
 use Rattle.machine_board.specs.Ways.{queue_in, room_in, asks}
-use Rattle.machine_board.proofs.Accesses.{begins, opens}
+use Rattle.machine_board.proofs.Drivers.{begins, opens}
 use Rattle.machine_board.proofs.guest.Guest.begin.Goals as goal
 
 pub invariant_of-self : goal.invariant_of-self

@@ -1,18 +1,17 @@
 -- An access on these cells.
 use Rattle.std.proofs.Common.{◌≡◌, ℕ, ◌+◌, ◌-◌, ◌≤◌, Bool, true, false, List, Option, None, Some, refl, sym, subst, arith, lit≤, if◌then◌else◌}
-use Rattle.std.specs.Prelude.{◌==◌, ◌||◌, nat_lt, max, is_some, is_none, not, length}
+use Rattle.std.specs.Prelude.{◌==◌, nat_lt, max, is_some, is_none, not}
 use Rattle.std.proofs.lemmas.Bool.Decides.{nat_tests}
-use Rattle.admin_wire.specs.Writing.{legacy_bytes, result_length}
+use Rattle.admin_wire.specs.Writing.{result_length}
 use Rattle.admin_wire.specs.Done.{parts_of}
 use Rattle.admin_wire.specs.declared.done.DoneParts.{DoneParts}
-use Rattle.admin_wire.specs.declared.command.LegacyCmd.{LegacyCmd}
 use Rattle.admin_wire.specs.declared.command.LegacyCmd.TheVariants.{CommonWrite, CommonRead, DevWrite, DevRead}
 use Rattle.legacy_regs.specs.declared.device.Kind.{Kind}
 use Rattle.group_calls.specs.Limits.{writable_limit}
 use Rattle.group_calls.specs.declared.ask.Ask.{Ask}
 use Rattle.group_calls.specs.declared.ask.Ask.TheVariants.{Queue, Member}
 use Rattle.group_calls.specs.declared.ask.Told.{Told}
-use Rattle.group_calls.specs.declared.ask.Told.TheVariants.{Owner as FromOwner, Queue as FromQueue, Member as FromMember, NoMemory}
+use Rattle.group_calls.specs.declared.ask.Told.TheVariants.{Queue as FromQueue, Member as FromMember}
 use Rattle.group_calls.specs.declared.queue.Tag.{Tag}
 use Rattle.group_calls.specs.declared.queue.RingCall.TheVariants.{Post, Take}
 use Rattle.group_calls.specs.declared.queue.RingReply.{RingReply}
@@ -25,14 +24,14 @@ use Rattle.io_bar.specs.declared.access.Access.TheVariants.{Read, Write}
 use Rattle.io_bar.specs.declared.access.Route.{Route}
 use Rattle.io_bar.specs.declared.access.Route.TheVariants.{Command, Doorbell, Local}
 use Rattle.io_bar.specs.Route.{count_of, is_port_width, is_local, rings_doorbell, device_base, read_command, write_command, passed_on, route_of}
-use Rattle.vfio_driver.specs.declared.access.Answer.TheVariants.{Data, Written, Ones, RefusedFull, RefusedMemory}
+use Rattle.vfio_driver.specs.declared.access.Answer.TheVariants.{Data, Written, Ones, RefusedMemory}
 use Rattle.vfio_driver.specs.declared.access.Open.{Open}
 use Rattle.vfio_driver.specs.declared.access.Open.TheVariants.{Nothing, Ringing, Posting, Taking}
 use Rattle.vfio_driver.specs.declared.access.Known.{Known}
 use Rattle.vfio_driver.specs.declared.access.Turned.{Turned}
-use Rattle.vfio_driver.specs.Access.{is_read, is_open, opened_by, opened, started_by, is_started, next_ask, ended, lost, ringing, posting, completed, ready, waiting, taking, turned}
+use Rattle.vfio_driver.specs.Access.{is_open, opened_by, opened, started_by, is_started, next_ask, ended, lost, ringing, posting, completed, taking, turned}
 use Rattle.machine_board.specs.Cells.{IsHere}
-use Rattle.machine_board.specs.Ways.{queue_in, room_in, GoesHere, asks}
+use Rattle.machine_board.specs.Ways.{GoesHere, asks}
 use Rattle.machine_board.proofs.Owners.{either}
 
 pub none_is : {A : Type 0} (o : Option A) (b : Bool) → is_some o ≡ not b → b ≡ is_none o
