@@ -1,12 +1,13 @@
 //! The lines of a script, performed.
 ghost use Rattle.std.specs.Prelude.{◌≡◌, IfOk, None};
+ghost use Rattle.group_calls.specs.declared.member.MemberCall.TheVariants.{Msix, MemWrite, MemRead, TakeIrqs, Step, Arrive, Flr, Kill};
 ghost use Rattle.alone_run.specs.Lines.{read_event, write_event};
-ghost use Rattle.alone_run.specs.Kept.{call_of, HasWidth, Accesses, PerformsCall, Performs};
+ghost use Rattle.alone_run.specs.Kept.{call_of, HasWidth, Accesses, Asked, PerformsCall, Performs};
 
 use crate::guest::Guest;
 use admin_wire::LegacyCmd;
 use board_script::What;
-use board_text::Piece;
+use board_text::{Bytes, Piece};
 use group_calls::{MemberCall, MemberReply};
 use io_bar::Place;
 use std::alloc::AllocError as NoMemory;
@@ -47,6 +48,63 @@ impl Guest {
         }
     }
 
+    // Bytes for the guest's memory.
+    fn write_memory(&mut self, addr: u64, bytes: &Bytes) -> Result<Option<MemberReply>, NoMemory>
+        ensures { IfOk result (Asked self.old self.new (MemWrite addr bytes.now)) }
+    {
+        self.ask(&MemberCall::MemWrite {
+            addr,
+            bytes: bytes.copy()?,
+        })
+    }
+
+    fn read_memory(&mut self, addr: u64, length: u32) -> Result<Option<MemberReply>, NoMemory>
+        ensures { IfOk result (Asked self.old self.new (MemRead addr length)) }
+    {
+        self.ask(&MemberCall::MemRead { addr, length })
+    }
+
+    fn enable_msix(&mut self, on: bool) -> Result<Option<MemberReply>, NoMemory>
+        ensures { IfOk result (Asked self.old self.new (Msix on)) }
+    {
+        self.ask(&MemberCall::Msix { on })
+    }
+
+    fn take_interrupts(&mut self) -> Result<Option<MemberReply>, NoMemory>
+        ensures { IfOk result (Asked self.old self.new TakeIrqs) }
+    {
+        self.ask(&MemberCall::TakeIrqs)
+    }
+
+    // The device works at a queue.
+    fn step(&mut self, queue: u16) -> Result<Option<MemberReply>, NoMemory>
+        ensures { IfOk result (Asked self.old self.new (Step queue)) }
+    {
+        self.ask(&MemberCall::Step { queue })
+    }
+
+    // A frame comes from the network.
+    fn receive(&mut self, frame: &Bytes) -> Result<Option<MemberReply>, NoMemory>
+        ensures { IfOk result (Asked self.old self.new (Arrive frame.now)) }
+    {
+        self.ask(&MemberCall::Arrive {
+            frame: frame.copy()?,
+        })
+    }
+
+    // The function level reset.
+    fn reset(&mut self) -> Result<Option<MemberReply>, NoMemory>
+        ensures { IfOk result (Asked self.old self.new Flr) }
+    {
+        self.ask(&MemberCall::Flr)
+    }
+
+    fn disable(&mut self) -> Result<Option<MemberReply>, NoMemory>
+        ensures { IfOk result (Asked self.old self.new Kill) }
+    {
+        self.ask(&MemberCall::Kill)
+    }
+
     // A line that asks nothing of the device.
     fn pass(&mut self, what: &What) -> Option<MemberReply>
         ensures { PerformsCall self.old self.new what.now None result }
@@ -65,24 +123,14 @@ impl Guest {
         match what {
             What::BarRead { offset, length, .. } => self.read(*offset, *length),
             What::BarWrite { offset, bytes, .. } => self.write(*offset, bytes),
-            What::Mem { addr, bytes } => self.ask(&MemberCall::MemWrite {
-                addr: *addr,
-                bytes: bytes.copy()?,
-            }),
-            What::Peek { addr, length } => self.ask(&MemberCall::MemRead {
-                addr: *addr,
-                length: *length,
-            }),
-            What::Msix { on } => self.ask(&MemberCall::Msix { on: *on }),
-            What::Irqs => self.ask(&MemberCall::TakeIrqs),
-            What::Poll { queue } | What::WorkerPoll { queue, .. } => self.ask(&MemberCall::Step {
-                queue: *queue,
-            }),
-            What::Frame { frame, .. } => self.ask(&MemberCall::Arrive {
-                frame: frame.copy()?,
-            }),
-            What::Flr { .. } => self.ask(&MemberCall::Flr),
-            What::Disable { .. } | What::Reset => self.ask(&MemberCall::Kill),
+            What::Mem { addr, bytes } => self.write_memory(*addr, bytes),
+            What::Peek { addr, length } => self.read_memory(*addr, *length),
+            What::Msix { on } => self.enable_msix(*on),
+            What::Irqs => self.take_interrupts(),
+            What::Poll { queue } | What::WorkerPoll { queue, .. } => self.step(*queue),
+            What::Frame { frame, .. } => self.receive(frame),
+            What::Flr { .. } => self.reset(),
+            What::Disable { .. } | What::Reset => self.disable(),
             What::Io { .. } | What::Cfg { .. } | What::Serve { .. } => Ok(self.pass(what)),
         }
     }
