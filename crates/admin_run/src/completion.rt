@@ -7,7 +7,6 @@ ghost use Rattle.admin_run.specs.Completion.{access_done};
 ghost use Rattle.admin_run.specs.Answers.{done_line};
 ghost use Rattle.admin_run.specs.Kept.{fixed_of};
 
-use board_text::Bytes;
 use group_calls::MemberReply;
 use serve_machine::notify_info;
 use std::alloc::AllocError as NoMemory;
@@ -34,12 +33,12 @@ fn fixed_part(status: u16, qualifier: u16) -> [u8; 8]
 
 // Appends the hex of a fixed part and a payload, as far as they are writable.
 fn push_bytes(
-    output: &mut Bytes,
+    output: &mut Vec<u8>,
     fixed: &[u8; 8],
     payload: &[u8],
     writable: usize,
 ) -> Result<(), NoMemory>
-    ensures { OnOk result (output.new ≡ output.old ++ encode_lower (take writable (fixed.now ++ payload.now))) }
+    ensures { OnOk result (output.new.items ≡ output.old.items ++ encode_lower (take writable (fixed.now ++ payload.now))) }
 {
     let front = writable.min(FIXED_SIZE);
     push_hex(output, &fixed[..front])?;
@@ -49,37 +48,42 @@ fn push_bytes(
 
 // Appends the line of a completion with a fixed part and a payload.
 fn push_completion(
-    output: &mut Bytes,
+    output: &mut Vec<u8>,
     fixed: &[u8; 8],
     payload: &[u8],
     writable: u32,
 ) -> Result<(), NoMemory>
-    ensures { OnOk result (output.new ≡ output.old ++ done_line (take writable (fixed.now ++ payload.now))) }
+    ensures { OnOk result (output.new.items ≡ output.old.items ++ done_line (take writable (fixed.now ++ payload.now))) }
 {
-    output.extend(b"done ")?;
+    output.extend_from_slice(b"done ")?;
     if writable == 0 {
         output.push(b'-')?;
     } else {
         push_bytes(output, fixed, payload, writable as usize)?;
     }
-    output.push(b'\n')
+    output.push(b'\n')?;
+    Ok(())
 }
 
 /// Appends the line of a completion with status 0 and a result.
-pub(crate) fn push_result(output: &mut Bytes, payload: &[u8], writable: u32) -> Result<(), NoMemory>
-    ensures { OnOk result (output.new ≡ output.old ++ done_line (done_of 0 0 payload.now writable)) }
+pub(crate) fn push_result(
+    output: &mut Vec<u8>,
+    payload: &[u8],
+    writable: u32,
+) -> Result<(), NoMemory>
+    ensures { OnOk result (output.new.items ≡ output.old.items ++ done_line (done_of 0 0 payload.now writable)) }
 {
     push_completion(output, &fixed_part(0, 0), payload, writable)
 }
 
 /// Appends the line of a completion without a result.
 pub(crate) fn push_plain(
-    output: &mut Bytes,
+    output: &mut Vec<u8>,
     status: u16,
     qualifier: u16,
     writable: u32,
 ) -> Result<(), NoMemory>
-    ensures { OnOk result (output.new ≡ output.old ++ done_line (done_of status qualifier [] writable)) }
+    ensures { OnOk result (output.new.items ≡ output.old.items ++ done_line (done_of status qualifier [] writable)) }
 {
     push_completion(output, &fixed_part(status, qualifier), &[], writable)
 }
@@ -92,26 +96,26 @@ fn list_bytes(bits: u64) -> [u8; 8]
 }
 
 /// Appends the line of the completion of LIST_QUERY.
-pub(crate) fn push_list(output: &mut Bytes, bits: u64, writable: u32) -> Result<(), NoMemory>
-    ensures { OnOk result (output.new ≡ output.old ++ done_line (done_of 0 0 (bytes_of 8 bits) writable)) }
+pub(crate) fn push_list(output: &mut Vec<u8>, bits: u64, writable: u32) -> Result<(), NoMemory>
+    ensures { OnOk result (output.new.items ≡ output.old.items ++ done_line (done_of 0 0 (bytes_of 8 bits) writable)) }
 {
     push_result(output, &list_bytes(bits), writable)
 }
 
 /// Appends the line of a completion of no byte, whatever is writable.
-pub(crate) fn push_nothing(output: &mut Bytes) -> Result<(), NoMemory>
-    ensures { OnOk result (output.new ≡ output.old ++ done_line []) }
+pub(crate) fn push_nothing(output: &mut Vec<u8>) -> Result<(), NoMemory>
+    ensures { OnOk result (output.new.items ≡ output.old.items ++ done_line []) }
 {
-    output.extend(b"done -\n")
+    output.extend_from_slice(b"done -\n")
 }
 
 /// Appends the line of the completion of a register access that the member answered so.
 pub(crate) fn push_access(
-    output: &mut Bytes,
+    output: &mut Vec<u8>,
     reply: &MemberReply,
     writable: u32,
 ) -> Result<(), NoMemory>
-    ensures { OnOk result (output.new ≡ output.old ++ done_line (access_done writable reply.now)) }
+    ensures { OnOk result (output.new.items ≡ output.old.items ++ done_line (access_done writable reply.now)) }
 {
     match reply {
         MemberReply::Data(bytes) => push_result(output, bytes.as_slice(), writable),

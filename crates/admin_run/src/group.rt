@@ -12,7 +12,7 @@ ghost use Rattle.admin_script.specs.declared.line.AdminLine.TheVariants as Admin
 
 use crate::completion::{push_access, push_list, push_nothing, push_plain};
 use admin_wire::LegacyCmd;
-use board_text::{Bytes, Floors, Piece};
+use board_text::{Floors, Piece};
 use group_calls::{Kind, MemberCall, MemberReply, OwnerCall, OwnerReply, Serial};
 use member_core::Member;
 use owner_core::Owner;
@@ -113,13 +113,13 @@ fn act(
 // Appends the line of what a verdict is completed with; a register access is carried out at its member.
 fn carry_out(
     members: &mut Vec<Member>,
-    output: &mut Bytes,
+    output: &mut Vec<u8>,
     verdict: OwnerReply,
     writable: u32,
 ) -> Result<(), NoMemory>
     ensures length { length members.new.items ≡ length members.old.items }
     ensures members { OnOk result (members.new.items ≡ acted_on members.old.items verdict) }
-    ensures output { OnOk result (output.new ≡ output.old ++ done_line (done_for members.old.items writable verdict)) }
+    ensures output { OnOk result (output.new.items ≡ output.old.items ++ done_line (done_for members.old.items writable verdict)) }
 {
     match verdict {
         OwnerReply::List { bits } => push_list(output, bits, writable),
@@ -138,18 +138,17 @@ fn carry_out(
 }
 
 impl DeviceGroup {
-    /// The group before the first line.
-    pub fn new(alloc: Global) -> Result<DeviceGroup, NoMemory>
+    /// The group before the first line, with room for the owner's history of so many lines.
+    pub fn new(alloc: Global, lines: u64) -> Result<DeviceGroup, NoMemory>
         ensures { IfOk result (λ group. group ≡ first_group) }
     {
         let mut members = Vec::with_capacity(alloc, MEMBER_COUNT as usize)?;
         'members: for before in 0..MEMBER_COUNT {
             members.push(fresh_member(alloc, before + 1)?)?;
         }
-        Ok(DeviceGroup {
-            owner: Owner::new(alloc, MEMBER_COUNT),
-            members,
-        })
+        let mut owner = Owner::new(alloc, MEMBER_COUNT);
+        owner.reserve(lines)?;
+        Ok(DeviceGroup { owner, members })
     }
 
     /// Sets the number of virtual functions, at most 16.
@@ -174,13 +173,13 @@ impl DeviceGroup {
     /// completion. At most 256 bytes are writable.
     pub fn serve(
         &mut self,
-        output: &mut Bytes,
+        output: &mut Vec<u8>,
         bytes: &Piece,
         writable: u32,
     ) -> Result<(), NoMemory>
         requires { writable ≤ 256 }
         ensures group { OnOk result (self.new ≡ after_line self.old (AdminLine.Cmd writable bytes.now)) }
-        ensures output { OnOk result (output.new ≡ output.old ++ done_line (completion_of self.old writable bytes.now)) }
+        ensures output { OnOk result (output.new.items ≡ output.old.items ++ done_line (completion_of self.old writable bytes.now)) }
     {
         let judge = OwnerCall::Judge {
             bytes: bytes.copy(),

@@ -10,10 +10,10 @@ use board_text::Bytes;
 use std::alloc::{AllocError as NoMemory, Global};
 
 // Performs a line, and appends its answer.
-fn answer(group: &mut DeviceGroup, output: &mut Bytes, line: &AdminLine) -> Result<(), NoMemory>
+fn answer(group: &mut DeviceGroup, output: &mut Vec<u8>, line: &AdminLine) -> Result<(), NoMemory>
     requires { IsAdminLine line.now }
     ensures group { OnOk result (group.new ≡ after_line group.old line.now) }
-    ensures output { OnOk result (output.new ≡ output.old ++ answer_to group.old line.now) }
+    ensures output { OnOk result (output.new.items ≡ output.old.items ++ answer_to group.old line.now) }
 {
     match line {
         AdminLine::Vfs { count } => group.set_functions(*count),
@@ -27,10 +27,10 @@ fn answer(group: &mut DeviceGroup, output: &mut Bytes, line: &AdminLine) -> Resu
 pub fn run_admin(alloc: Global, text: &AdminText) -> Result<Bytes, NoMemory>
     ensures { IfOk result (λ output. output ≡ admin_output text.now) }
 {
-    let mut group = DeviceGroup::new(alloc)?;
-    let mut output = Bytes::new(alloc);
+    let mut group = DeviceGroup::new(alloc, text.length() as u64)?;
+    let mut output = Vec::new(alloc);
     'lines: for index in 0..text.length() {
         answer(&mut group, &mut output, text.line(index))?;
     }
-    Ok(output)
+    Ok(Bytes::from(output))
 }

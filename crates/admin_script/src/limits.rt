@@ -13,4 +13,4 @@ pub(crate) const ROOM_LIMIT: u64 = 256;
 pub(crate) const LINE_LENGTH: usize = 8;
 
 // For how many lines room is taken at once at most. Room for more lines is taken as they come.
-pub(crate) const FIRST_LINES: usize = 512;
+pub(crate) const FIRST_LINES: usize = 4_096;

@@ -1,8 +1,8 @@
 -- What a performed line makes of the guest, and what it is shown.
-use Rattle.std.proofs.Common.{◌≡◌, ℕ, ◌+◌, Bool, true, false, List, [], ◌∷◌, ◌++◌, Option, Some, None, refl, sym, ap, ◌∙◌, subst, append_assoc}
+use Rattle.std.proofs.Common.{◌≡◌, ℕ, ◌+◌, Bool, true, false, List, [], ◌∷◌, ◌++◌, Option, Some, None, refl, sym, ap, ◌∙◌, subst, append_assoc, append-nil, ◌≤◌, length, codes}
 use Rattle.std.specs.Prelude.{◌==◌, option_map, unwrap_or, if◌then◌else◌, drop}
 use Rattle.std.proofs.lemmas.Option.{same_Some, none-some, slice_get_within, get_or_from_slice_get}
-use Rattle.std.proofs.lemmas.List.{drop_more}
+use Rattle.std.proofs.lemmas.List.{drop_more, drop_all}
 use Rattle.std.specs.List.{slice_get}
 use Rattle.legacy_regs.specs.declared.device.Kind.{Kind}
 use Rattle.legacy_regs.specs.Fields.{common_size}
@@ -20,11 +20,13 @@ use Rattle.group_calls.specs.MemberRegisters.{is_msix}
 use Rattle.group_calls.specs.Member.{member_answer}
 use Rattle.group_calls.specs.Lone.{access_of, device_base, as_history, reply_of, device_reply, lone_over, lone_reply}
 use Rattle.board_script.specs.declared.script.ActorLine.{ActorLine}
+use Rattle.board_script.specs.Script.{Whole}
+use Rattle.board_script.specs.declared.script.Setup.{Setup}
 use Rattle.board_script.specs.declared.script.What.{What}
 use Rattle.board_script.specs.declared.script.What.TheVariants as what
 use Rattle.alone_run.specs.declared.guest.Guest.{Guest}
 use Rattle.alone_run.specs.Lines.{event_of, lone_words, answer_words}
-use Rattle.alone_run.specs.Transcript.{has_io, with_event, events, answer_to, numbered, shown, transcript}
+use Rattle.alone_run.specs.Transcript.{has_io, with_event, events, answer_to, numbered, shown, transcript, made_for, alone_part, alone_text}
 use Rattle.alone_run.specs.Kept.{Stands, call_of, told_words, words_for, io_after, Asks, PerformsCall, Performs, shown_for, Shows, SoFar}
 
 -- ---- I/O
@@ -193,3 +195,21 @@ line_shown made front output grown old new line left lines all is shows s = reco
 pub line_at : (lines : List ActorLine) (index : ℕ) (line : ActorLine) → slice_get lines index ≡ Some line → drop index lines ≡ line ∷ drop (index + 1) lines
 line_at lines index line is =
     drop_more lines index line (slice_get_within lines index line is) ∙ ap (λ (l : ActorLine). l ∷ drop (index + 1) lines) (get_or_from_slice_get lines index line line is)
+
+-- ---- the whole text
+
+one_part : (guests : List Setup) (setup : Setup) (lines : List ActorLine) → slice_get guests 0 ≡ Some setup → alone_part guests lines ≡ codes "guest 1\n" ++ transcript (made_for setup) [] lines ++ codes "end\n"
+one_part [] setup lines first = absurd cc
+one_part (found ∷ others) setup lines first =
+    let same : found ≡ setup = same_Some found setup first in
+    ap (λ (g : Setup). codes "guest 1\n" ++ transcript (made_for g) [] lines ++ codes "end\n") same
+
+-- all lines are shown, and the text is closed
+pub text_whole : (s : Whole) (setup : Setup) (made : MemberMade) (g : Guest) (output grown : List ℕ) (index : ℕ) → slice_get s.guests 0 ≡ Some setup → length s.lines ≤ index
+    → made ≡ made_for setup → grown ≡ output ++ codes "end\n" → SoFar made g (codes "guest 1\n") output (drop index s.lines) s.lines → grown ≡ alone_text s
+text_whole s setup made g output grown index first past same ended so_far =
+    let before : List ℕ = transcript made [] s.lines in
+    let shown_all : codes "guest 1\n" ++ before ≡ output =
+    so_far.text ∙ ap (λ (l : List ActorLine). output ++ transcript made so_far.earlier l) (drop_all index s.lines past) ∙ append-nil output in
+    ended ∙ ap (λ (out : List ℕ). out ++ codes "end\n") (sym shown_all) ∙ append_assoc (codes "guest 1\n") before (codes "end\n")
+    ∙ ap (λ (m : MemberMade). codes "guest 1\n" ++ transcript m [] s.lines ++ codes "end\n") same ∙ sym (one_part s.guests setup s.lines first)

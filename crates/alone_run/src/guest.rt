@@ -11,7 +11,6 @@ ghost use Rattle.board_script.specs.Bounds.{IsSetup};
 
 use crate::words::push_words;
 use board_script::{ActorLine, Setup};
-use board_text::Bytes;
 use group_calls::{MemberCall, MemberReply, Serial};
 use io_bar::Bar;
 use member_core::Member;
@@ -51,13 +50,15 @@ fn is_done(reply: &MemberReply) -> bool
 }
 
 impl Guest {
-    /// The guest before its first line.
-    pub fn new(alloc: Global, setup: Setup) -> Result<Guest, NoMemory>
+    /// The guest before its first line, with room for the history of so many lines.
+    pub fn new(alloc: Global, setup: Setup, lines: u64) -> Result<Guest, NoMemory>
         requires { IsSetup setup }
         ensures { IfOk result (λ guest. Stands (made_for setup) guest []) }
     {
+        let mut member = Member::new(alloc, GUEST, setup.pages, setup.kind)?;
+        member.reserve(lines)?;
         Ok(Guest {
-            member: Member::new(alloc, GUEST, setup.pages, setup.kind)?,
+            member,
             bar: Bar::new(setup.kind),
             io: true,
             msix: false,
@@ -74,9 +75,9 @@ impl Guest {
     }
 
     /// Performs a line, and appends what the guest is shown of it.
-    pub fn show(&mut self, output: &mut Bytes, line: &ActorLine) -> Result<(), NoMemory>
+    pub fn show(&mut self, output: &mut Vec<u8>, line: &ActorLine) -> Result<(), NoMemory>
         requires { HasWidth line.now.what }
-        ensures { OnOk result (Shows self.old self.new output.old output.new line.now) }
+        ensures { OnOk result (Shows self.old self.new output.old.items output.new.items line.now) }
     {
         let bar = self.bar;
         let io = self.io;
@@ -87,14 +88,14 @@ impl Guest {
 
 // Appends what the guest is shown of a line: nothing of another actor's.
 fn push_shown(
-    output: &mut Bytes,
+    output: &mut Vec<u8>,
     bar: &Bar,
     io: bool,
     line: &ActorLine,
     reply: &Option<MemberReply>,
 ) -> Result<(), NoMemory>
     requires { HasWidth line.now.what }
-    ensures { OnOk result (output.new ≡ output.old ++ shown_for bar.now io line.now reply.now) }
+    ensures { OnOk result (output.new.items ≡ output.old.items ++ shown_for bar.now io line.now reply.now) }
 {
     if line.who != GUEST {
         return Ok(());
@@ -102,5 +103,6 @@ fn push_shown(
     push_number(output, u64::from(line.number))?;
     output.push(b' ')?;
     push_words(output, bar, io, &line.what, reply)?;
-    output.push(b'\n')
+    output.push(b'\n')?;
+    Ok(())
 }

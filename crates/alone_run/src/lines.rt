@@ -1,5 +1,6 @@
 //! The lines of a script, performed.
-ghost use Rattle.std.specs.Prelude.{◌≡◌, IfOk, None};
+ghost use Rattle.std.specs.Prelude.{◌≡◌, IfOk, None, length, true};
+ghost use Rattle.script_words.specs.Values.{is_width};
 ghost use Rattle.group_calls.specs.declared.member.MemberCall.TheVariants.{Msix, MemWrite, MemRead, TakeIrqs, Step, Arrive, Flr, Kill};
 ghost use Rattle.alone_run.specs.Lines.{read_event, write_event};
 ghost use Rattle.alone_run.specs.Kept.{call_of, HasWidth, Accesses, Asked, PerformsCall, Performs};
@@ -31,19 +32,23 @@ impl Guest {
     }
 
     // A write of the BAR, which may stay with the host. A doorbell is a write of queue notify.
-    fn write(&mut self, offset: u8, bytes: &Piece) -> Result<Option<MemberReply>, NoMemory>
+    fn write(&mut self, offset: u8, bytes: &Bytes) -> Result<Option<MemberReply>, NoMemory>
+        requires { is_width (length bytes.now) ≡ true }
         ensures { IfOk result (Accesses self.old self.new (call_of self.old.msix (write_event self.old.bar self.old.io offset bytes.now))) }
     {
-        let count = bytes.as_slice().len() as u32;
-        match self.bar.place(self.msix, self.io, offset, count) {
+        let bytes = bytes.as_slice();
+        match self
+            .bar
+            .place(self.msix, self.io, offset, bytes.len() as u32)
+        {
             Place::Outside => Ok(None),
             Place::Common { offset } => self.ask(&MemberCall::Act(LegacyCmd::CommonWrite {
                 offset,
-                bytes: bytes.copy(),
+                bytes: Piece::from_slice(bytes),
             })),
             Place::Device { offset } => self.ask(&MemberCall::Act(LegacyCmd::DevWrite {
                 offset,
-                bytes: bytes.copy(),
+                bytes: Piece::from_slice(bytes),
             })),
         }
     }

@@ -4,16 +4,15 @@ ghost use Rattle.alone_run.specs.Lines.{halt_words, reply_words, ones, outside_w
 ghost use Rattle.alone_run.specs.Kept.{told_words, words_for, HasWidth};
 
 use board_script::What;
-use board_text::Bytes;
 use group_calls::{Halt, MemberReply};
 use io_bar::Bar;
 use std::alloc::AllocError as NoMemory;
 use text_out::push_hex;
 
 // Appends all ones for a read of so many bytes.
-fn push_ones(output: &mut Bytes, length: u32) -> Result<(), NoMemory>
+fn push_ones(output: &mut Vec<u8>, length: u32) -> Result<(), NoMemory>
     requires { length ≤ 4 }
-    ensures { OnOk result (output.new ≡ output.old ++ ones length) }
+    ensures { OnOk result (output.new.items ≡ output.old.items ++ ones length) }
 {
     push_hex(output, &[0xff; 4][..length as usize])
 }
@@ -31,61 +30,61 @@ fn halt_name(halt: &Halt) -> &'static [u8]
 }
 
 // Appends the words for a reply.
-fn push_reply(output: &mut Bytes, reply: &MemberReply) -> Result<(), NoMemory>
-    ensures { OnOk result (output.new ≡ output.old ++ reply_words reply.now) }
+fn push_reply(output: &mut Vec<u8>, reply: &MemberReply) -> Result<(), NoMemory>
+    ensures { OnOk result (output.new.items ≡ output.old.items ++ reply_words reply.now) }
 {
     match reply {
         MemberReply::Data(bytes) => push_hex(output, bytes.as_slice()),
-        MemberReply::Gone { .. } => output.extend(b"gone"),
+        MemberReply::Gone { .. } => output.extend_from_slice(b"gone"),
         MemberReply::Irqs { mask } => push_hex(output, &[(*mask % 256) as u8]),
-        MemberReply::Served { .. } => output.extend(b"served"),
-        MemberReply::Empty => output.extend(b"empty"),
-        MemberReply::NotPending => output.extend(b"idle"),
-        MemberReply::Halted(halt) => output.extend(halt_name(halt)),
-        MemberReply::Dropped => output.extend(b"dropped"),
-        _ => output.extend(b"ok"),
+        MemberReply::Served { .. } => output.extend_from_slice(b"served"),
+        MemberReply::Empty => output.extend_from_slice(b"empty"),
+        MemberReply::NotPending => output.extend_from_slice(b"idle"),
+        MemberReply::Halted(halt) => output.extend_from_slice(halt_name(halt)),
+        MemberReply::Dropped => output.extend_from_slice(b"dropped"),
+        _ => output.extend_from_slice(b"ok"),
     }
 }
 
 // Appends the words for the reply to a line.
-fn push_told(output: &mut Bytes, what: &What, reply: &MemberReply) -> Result<(), NoMemory>
+fn push_told(output: &mut Vec<u8>, what: &What, reply: &MemberReply) -> Result<(), NoMemory>
     requires { HasWidth what.now }
-    ensures { OnOk result (output.new ≡ output.old ++ told_words what.now reply.now) }
+    ensures { OnOk result (output.new.items ≡ output.old.items ++ told_words what.now reply.now) }
 {
     match what {
         What::BarRead { length, .. } => match reply {
             MemberReply::Data(bytes) => push_hex(output, bytes.as_slice()),
             _ => push_ones(output, *length),
         },
-        What::BarWrite { .. } => output.extend(b"ok"),
+        What::BarWrite { .. } => output.extend_from_slice(b"ok"),
         _ => push_reply(output, reply),
     }
 }
 
 // Appends the words for a line that asks nothing of the device.
-fn push_outside(output: &mut Bytes, bar: &Bar, io: bool, what: &What) -> Result<(), NoMemory>
+fn push_outside(output: &mut Vec<u8>, bar: &Bar, io: bool, what: &What) -> Result<(), NoMemory>
     requires { HasWidth what.now }
-    ensures { OnOk result (output.new ≡ output.old ++ outside_words bar.now io what.now) }
+    ensures { OnOk result (output.new.items ≡ output.old.items ++ outside_words bar.now io what.now) }
 {
     match what {
         What::BarRead { length, .. } => push_ones(output, *length),
         What::Cfg { offset, length } => {
             push_hex(output, bar.config(io, *offset, *length).as_slice())
         }
-        _ => output.extend(b"ok"),
+        _ => output.extend_from_slice(b"ok"),
     }
 }
 
 /// Appends the words for a line and the reply to it, if it asked the device.
 pub(crate) fn push_words(
-    output: &mut Bytes,
+    output: &mut Vec<u8>,
     bar: &Bar,
     io: bool,
     what: &What,
     reply: &Option<MemberReply>,
 ) -> Result<(), NoMemory>
     requires { HasWidth what.now }
-    ensures { OnOk result (output.new ≡ output.old ++ words_for bar.now io what.now reply.now) }
+    ensures { OnOk result (output.new.items ≡ output.old.items ++ words_for bar.now io what.now reply.now) }
 {
     match reply {
         Some(reply) => push_told(output, what, reply),

@@ -171,6 +171,7 @@ impl Draft {
         Ok(())
     }
 
+    #[inline(always)]
     pub fn add_line(&mut self, line: ActorLine) -> Result<(), NoMemory>
         requires { MayAsk (queues_at self.old.board) (workers_at self.old.board) self.old.guests line.who line.what }
         ensures { OnOk result (self.new ≡ record self.old { lines = self.old.lines ++ line ∷ [] }) }

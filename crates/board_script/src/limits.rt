@@ -52,4 +52,4 @@ pub const ALONE_LIMIT: usize = 4_096;
 pub(crate) const LINE_LENGTH: usize = 8;
 
 // For how many lines of actors room is taken at once at most. Room for more lines is taken as they come.
-pub(crate) const FIRST_LINES: usize = 512;
+pub(crate) const FIRST_LINES: usize = 4_096;

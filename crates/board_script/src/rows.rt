@@ -15,10 +15,9 @@ use crate::limits::{
     QUEUE_LIMIT, RANGE_LIMIT, SECTOR_LIMIT, TURNS_LIMIT, WORKER_LIMIT, WORKERS_FROM,
 };
 use crate::script::{ActorLine, Board, Setup, Turns, What};
-use board_text::Piece;
 use legacy_regs::Kind;
 use script_words::{
-    Act, Cause, Fault, Head, Member, Tail, Word, among, bytes, fill_short_bytes, large_number,
+    Act, Cause, Fault, Head, Member, Tail, Word, among, bytes, bytes_of_width, large_number,
     number, piece, queue_size, width,
 };
 use std::alloc::Global;
@@ -200,6 +199,7 @@ fn access_in(
 }
 
 fn access_out(
+    alloc: Global,
     draft: &mut Draft,
     place: Place,
     guest_word: &Word,
@@ -212,8 +212,7 @@ fn access_out(
 {
     let who = guest(draft, guest_word)?;
     let offset = number(offset, 0, OFFSET_LIMIT)? as u8;
-    let mut bytes = Piece::new();
-    fill_short_bytes(hex, &mut bytes)?;
+    let bytes = bytes_of_width(alloc, hex)?;
     let queue = queue_of_tail(draft, &tail.queue)?;
     add(
         draft,
@@ -524,7 +523,7 @@ pub fn add_act(alloc: Global, draft: &mut Draft, place: Place, act: &Act) -> Res
             offset,
             bytes,
             tail,
-        } => access_out(draft, place, guest, offset, bytes, tail),
+        } => access_out(alloc, draft, place, guest, offset, bytes, tail),
         Act::Mem { guest, addr, bytes } => mem(alloc, draft, place, guest, addr, bytes),
         Act::Peek {
             guest,

@@ -5,7 +5,7 @@ ghost use Rattle.board_script.specs.Limits.{guest_limit};
 ghost use Rattle.board_script.specs.Script.{Whole};
 ghost use Rattle.board_script.specs.Bounds.{IsScript, IsSetup, MayAsk, IsTurns};
 
-use board_text::{Bytes, Piece};
+use board_text::Bytes;
 use legacy_regs::Kind;
 use std::marker::Model;
 
@@ -61,7 +61,7 @@ pub enum What {
     /// `gN out OFF HEX [@K] [once]`: writes 1, 2 or 4 bytes of BAR 0.
     BarWrite {
         offset: u8,
-        bytes: Piece,
+        bytes: Bytes,
         queue: Option<u32>,
         once: bool,
     },

@@ -1,8 +1,8 @@
 //! At most 256 bytes, which take no memory.
 ghost use Rattle.std.specs.Prelude.{◌≡◌, ◌*◌, ◌+◌, ◌<◌, ◌≤◌, [], ◌∷◌, ◌++◌, length, take};
-ghost use Rattle.hex.specs.Hex.{decode_of};
-ghost use Rattle.board_text.specs.Hex.{FillsPiece, FillsWith, hex_piece, is_piece_length};
+ghost use Rattle.board_text.specs.Hex.{FillsPiece, hex_piece, is_piece_length};
 
+use crate::hex_text::fill_hex;
 use arrayvec::ArrayVec;
 use std::marker::Model;
 
@@ -30,15 +30,6 @@ fn is_length(digits: usize) -> bool
     ensures { result ≡ is_piece_length digits }
 {
     2 <= digits && digits <= 2 * PIECE_LIMIT && digits % 2 == 0
-}
-
-// Puts the bytes that a text spells into as many, and says whether it spells them.
-fn fill_hex(text: &[u8], out: &mut [u8]) -> bool
-    requires { length text.now ≡ 2 * length out.old }
-    ensures length { length out.new ≡ length out.old }
-    ensures bytes { FillsWith result out.new (decode_of text.now) }
-{
-    hex::decode_to_slice(text, out).is_ok()
 }
 
 impl Piece {

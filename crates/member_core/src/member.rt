@@ -49,6 +49,14 @@ impl Member {
             log: Log::new(alloc),
         })
     }
+
+    /// Takes room for so many calls more, so that the history needn't be moved as it grows. Contracts see the member as it
+    /// was, whatever the answer is.
+    pub fn reserve(&mut self, calls: u64) -> Result<(), NoMemory>
+        ensures { self.new ≡ self.old }
+    {
+        self.log.reserve(calls)
+    }
 }
 
 impl Serial for Member {

@@ -82,6 +82,7 @@ impl QueueFacts {
     }
 
     /// After an entry, before which this queue was selected.
+    #[inline(always)]
     pub(crate) fn after(
         self,
         kind: &Kind,

@@ -65,6 +65,7 @@ impl State {
     }
 
     /// What a member that lives answers, or any to a call on its memory. Just the device changes.
+    #[inline(always)]
     fn living_answer(&mut self, call: &MemberCall) -> Result<Answer, NoMemory>
         ensures told { (f : Facts) → AreTold self.old f → IfOk result (λ answer. answer.told ≡ living_reply self.old f call.now) }
         ensures kept { IfOk result (λ answer. answer.kept ≡ answer.told) }

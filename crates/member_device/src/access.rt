@@ -42,6 +42,7 @@ impl Device {
     }
 
     /// Reads a structure.
+    #[inline(always)]
     fn read(&mut self, space: Space, offset: u8, length: u32) -> Result<Answer, NoMemory>
         ensures told { IfOk result (λ answer. answer.told ≡ act_answer self.old.made.kind self.old.registers (read_command space offset length)) }
         ensures kept { IfOk result (λ answer. answer.kept ≡ answer.told) }

@@ -60,6 +60,14 @@ impl Owner {
         }
     }
 
+    /// Takes room for so many calls more, so that the history needn't be moved as it grows. Contracts see the owner as it
+    /// was, whatever the answer is.
+    pub fn reserve(&mut self, calls: u64) -> Result<(), NoMemory>
+        ensures { self.new ≡ self.old }
+    {
+        self.log.reserve(calls)
+    }
+
     fn floor_of(&self, member: u64) -> u64
         ensures { result ≡ refusal_floor self.now.history member }
     {

@@ -323,8 +323,8 @@ ActorLine { number: 7, who: 1, what: BarRead { offset: 18, length: 1, queue: Non
 ActorLine { number: 8, who: 1, what: BarRead { offset: 0, length: 4, queue: Some(1), once: true } }
 ActorLine { number: 9, who: 2, what: BarRead { offset: 255, length: 2, queue: None, once: true } }
 ActorLine { number: 10, who: 2, what: BarRead { offset: 12, length: 2, queue: Some(0), once: false } }
-ActorLine { number: 11, who: 1, what: BarWrite { offset: 14, bytes: Piece { items: [1, 0] }, queue: None, once: false } }
-ActorLine { number: 12, who: 1, what: BarWrite { offset: 8, bytes: Piece { items: [171, 205, 239, 1] }, queue: Some(1), once: true } }
+ActorLine { number: 11, who: 1, what: BarWrite { offset: 14, bytes: Bytes { items: [1, 0] }, queue: None, once: false } }
+ActorLine { number: 12, who: 1, what: BarWrite { offset: 8, bytes: Bytes { items: [171, 205, 239, 1] }, queue: Some(1), once: true } }
 ActorLine { number: 13, who: 1, what: Mem { addr: 262142, bytes: Bytes { items: [0, 255] } } }
 ActorLine { number: 14, who: 2, what: Peek { addr: 3584, length: 512 } }
 ActorLine { number: 16, who: 1, what: Msix { on: true } }

@@ -3,7 +3,8 @@ ghost use Rattle.std.specs.Prelude.{◌≡◌, ◌<◌, ◌^◌};
 ghost use Rattle.script_load.specs.Loaded.{next_state as next_state_of, drawn as drawn_of, reads as reads_of, selects as selects_of, asked as asked_of, loaded_line};
 
 use board_script::{ActorLine, What};
-use board_text::Piece;
+use board_text::Bytes;
+use std::alloc::Global;
 
 const MULTIPLIER: u64 = 6_364_136_223_846_793_005;
 
@@ -34,12 +35,10 @@ fn reads(offset: u8, length: u32) -> What
     }
 }
 
-fn selects(number: u8) -> What
+fn selects(alloc: Global, number: u8) -> What
     ensures { result ≡ selects_of number }
 {
-    let mut bytes = Piece::new();
-    bytes.push(number);
-    bytes.push(0);
+    let bytes = Bytes::from_slice(alloc, &[number, 0]).unwrap();
     What::BarWrite {
         offset: 14,
         bytes,
@@ -48,24 +47,24 @@ fn selects(number: u8) -> What
     }
 }
 
-fn asked(drawn: u32) -> What
+fn asked(alloc: Global, drawn: u32) -> What
     ensures { result ≡ asked_of drawn }
 {
     match drawn / 4 % 4 {
         0 => reads(18, 1),
-        1 => selects((drawn / 16 % 4) as u8),
+        1 => selects(alloc, (drawn / 16 % 4) as u8),
         2 => reads(12, 2),
         _ => reads(19, 1),
     }
 }
 
 // The line with this number.
-pub(crate) fn line(number: u32, drawn: u32) -> ActorLine
+pub(crate) fn line(alloc: Global, number: u32, drawn: u32) -> ActorLine
     ensures { result ≡ loaded_line number drawn }
 {
     ActorLine {
         number,
         who: 1 + drawn % 4,
-        what: asked(drawn),
+        what: asked(alloc, drawn),
     }
 }

@@ -21,7 +21,7 @@ fn load_lines(alloc: Global, seed: u64, count: u32) -> Result<Vec<ActorLine>, No
     let mut state = seed;
     'lines: for index in 0..count {
         state = next_state(state);
-        lines.push(line(FIRST_LINE + index, drawn(state)))?;
+        lines.push(line(alloc, FIRST_LINE + index, drawn(state)))?;
     }
     Ok(lines)
 }

@@ -1,5 +1,5 @@
 -- The words of a line by its bytes alone.
-use Rattle.std.proofs.Common.{◌≡◌, ℕ, ◌+◌, ◌<◌, ◌≤◌, Bool, true, false, not, cond, List, [], ◌∷◌, length, get_or, drop, refl, ◌∙◌, arith, inl, inr}
+use Rattle.std.proofs.Common.{◌≡◌, ℕ, ◌+◌, ◌<◌, ◌≤◌, Bool, true, false, not, cond, List, [], ◌∷◌, ◌++◌, length, get_or, drop, refl, ◌∙◌, arith, inl, inr}
 use Rattle.std.specs.Prelude.{◌==◌, ◌&&◌, ◌||◌, nat_le}
 use Rattle.std.specs.List.{list_all, onto_first}
 use Rattle.std.proofs.lemmas.Bool.{cases_lt, eqb-true, eqb-false, ne_eqb, le-leb, lt-leb}
@@ -104,3 +104,12 @@ unprintable before byte other fails = rw (other_in_line byte (ne_eqb byte 32 oth
 
 pub goes_on-ended : (text : List ℕ) (place : ℕ) (good : Bool) (before : ℕ) → length text ≤ place → goes_on good before (drop place text) ≡ (good && not (before == 32))
 goes_on-ended text place good before le = rw (drop_all place text le) refl
+
+-- ---- in front of a rest
+
+pub goes_on-front : (front rest : List ℕ) (place : ℕ) (good : Bool) (before : ℕ) → place < length front
+    → goes_on good before (drop place front ++ rest) ≡ goes_on (good && may_follow before (get_or front place 0)) (get_or front place 0) (drop (place + 1) front ++ rest)
+goes_on-front front rest place good before lt = rw (drop_more front place 0 lt) refl
+
+pub goes_on-rest : (front rest : List ℕ) (place : ℕ) (good : Bool) (before : ℕ) → length front ≤ place → goes_on good before (drop place front ++ rest) ≡ goes_on good before rest
+goes_on-rest front rest place good before le = rw (drop_all place front le) refl

@@ -3,7 +3,7 @@ ghost use Rattle.std.specs.Prelude.{◌≡◌, ◌≤◌, IfOk, OnOk, length, is
 ghost use Rattle.std.specs.List.{list_all};
 ghost use Rattle.hex.specs.Hex.{is_hex_digit, IsBytes};
 ghost use Rattle.board_text.specs.Hex.{hex_bytes};
-ghost use Rattle.script_words.specs.Values.{Gives, Steps, bytes_in, bytes_of_width};
+ghost use Rattle.script_words.specs.Values.{Gives, Steps, bytes_in, bytes_of_width as bytes_of_width_of};
 
 use crate::cause::{Cause, Fault};
 use crate::values::is_width;
@@ -94,28 +94,20 @@ pub fn piece(word: &Word, low: usize, high: usize) -> Result<Piece, Fault>
     Ok(piece)
 }
 
-/// Puts the 1, 2 or 4 bytes that a word spells into a piece. It takes no memory. After an error some bytes stand
-/// in the piece.
-pub fn fill_short_bytes(word: &Word, piece: &mut Piece) -> Result<(), Fault>
-    ensures value { Steps result piece.new (bytes_of_width (hex_bytes word.now)) }
-    ensures each { OnOk result (IsBytes piece.new) }
-{
-    if !piece.read_hex(word.bytes()) {
-        return Err(fault_without_piece(word));
-    }
-    if is_width(piece.as_slice().len() as u64) {
-        Ok(())
-    } else {
-        Err(Fault::Bad(Cause::Range))
-    }
-}
-
-/// 1, 2 or 4 bytes. It takes no memory.
-pub fn short_bytes(word: &Word) -> Result<Piece, Fault>
-    ensures value { Gives result (bytes_of_width (hex_bytes word.now)) }
+/// 1, 2 or 4 bytes. `hex` where the word spells no bytes, `range` where it spells another number of them.
+pub fn bytes_of_width(alloc: Global, word: &Word) -> Result<Bytes, Fault>
+    ensures value { Gives result (bytes_of_width_of (hex_bytes word.now)) }
     ensures each { IfOk result IsBytes }
 {
-    let mut piece = Piece::new();
-    fill_short_bytes(word, &mut piece)?;
-    Ok(piece)
+    match read_hex(alloc, word.bytes()) {
+        Ok(bytes) => {
+            if is_width(bytes.as_slice().len() as u64) {
+                Ok(bytes)
+            } else {
+                Err(Fault::Bad(Cause::Range))
+            }
+        }
+        Err(HexFault::Malformed(_)) => Err(Fault::Bad(Cause::Hex)),
+        Err(HexFault::NoMemory) => Err(Fault::NoMemory),
+    }
 }

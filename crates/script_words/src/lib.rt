@@ -18,7 +18,7 @@ mod words;
 
 pub use cause::{Cause, Fault};
 pub use forms::read_shape;
-pub use hex_words::{bytes, fill_piece, fill_short_bytes, piece, short_bytes};
+pub use hex_words::{bytes, bytes_of_width, fill_piece, piece};
 pub use shape::{Act, Member, Shape, Tail};
 pub use texts::{ScriptFault, at_line, is_ignored};
 pub use values::{among, large_number, number, number_at, queue_size, width};

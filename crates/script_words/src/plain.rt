@@ -2,11 +2,10 @@
 ghost use Rattle.std.specs.Prelude.{◌≡◌, ◌==◌, true};
 ghost use Rattle.std.specs.List.{list_any};
 ghost use Rattle.script_words.specs.Words.{words_of, are_words, is_printable as is_printable_of};
-ghost use Rattle.script_words.specs.Kept.{may_follow as may_follow_of, goes_on};
+ghost use Rattle.script_words.specs.Kept.{may_follow as may_follow_of, goes_on as goes_on_of};
 
-// From how many bytes on all bytes of a line are looked at, several at a time, in place of one after another up to the
-// first that may not stand there.
-const LONG: usize = 32;
+// Bytes are looked at so many at a time, as far as there are as many, and then one after another.
+const MANY: usize = 32;
 
 // Whether a byte may stand behind another.
 fn may_follow(before: u8, byte: u8) -> bool
@@ -21,41 +20,45 @@ fn is_printable(byte: u8) -> bool
     matches!(byte, b'!'..=b'~')
 }
 
-fn is_plain_short(line: &[u8]) -> bool
-    ensures { result ≡ goes_on true 32 line.now }
+// Whether bytes may stand one behind another, the first of them behind this one, and the last is no space.
+fn goes_on(first: u8, bytes: &[u8]) -> bool
+    ensures { result ≡ goes_on_of true first bytes.now }
 {
-    let mut before = b' ';
-    'bytes: for byte in line {
-        if *byte == b' ' {
+    let mut before = first;
+    'bytes: for byte in bytes {
+        if !is_printable(*byte) {
+            if *byte != b' ' {
+                return false;
+            }
             if before == b' ' {
                 return false;
             }
-        } else if !is_printable(*byte) {
-            return false;
         }
         before = *byte;
     }
     before != b' '
 }
 
+// The same of a line, whose front is gone over many bytes at a time.
 fn is_plain_long(line: &[u8]) -> bool
-    ensures { result ≡ goes_on true 32 line.now }
+    ensures { result ≡ goes_on_of true 32 line.now }
 {
+    let (front, rest) = line.split_at(line.len() / MANY * MANY);
     let mut good = true;
     let mut before = b' ';
-    'bytes: for byte in line {
+    'bytes: for byte in front {
         good = good & may_follow(before, *byte);
         before = *byte;
     }
-    good & (before != b' ')
+    good && goes_on(before, rest)
 }
 
 // Whether all words of the line may stand there.
 pub(crate) fn is_plain(line: &[u8]) -> bool
     ensures { result ≡ are_words (words_of line.now) }
 {
-    if line.len() < LONG {
-        is_plain_short(line)
+    if line.len() < MANY {
+        goes_on(b' ', line)
     } else {
         is_plain_long(line)
     }

@@ -3,7 +3,6 @@ ghost use Rattle.std.specs.Prelude.{◌≡◌, ◌++◌, ◌≤◌, length, OnOk
 ghost use Rattle.std.specs.Fmt.{decimal};
 ghost use Rattle.hex.specs.Hex.{encode_lower};
 
-use board_text::Bytes;
 use itoa::Buffer;
 use std::alloc::AllocError as NoMemory;
 
@@ -11,19 +10,19 @@ use std::alloc::AllocError as NoMemory;
 const PART: usize = 64;
 
 // Appends a part in hex.
-fn push_part(output: &mut Bytes, part: &[u8]) -> Result<(), NoMemory>
+fn push_part(output: &mut Vec<u8>, part: &[u8]) -> Result<(), NoMemory>
     requires { length part.now ≤ 64 }
-    ensures { OnOk result (output.new ≡ output.old ++ encode_lower part.now) }
+    ensures { OnOk result (output.new.items ≡ output.old.items ++ encode_lower part.now) }
 {
     let mut digits = [0; 2 * PART];
     let digits = &mut digits[..2 * part.len()];
     hex::encode_to_slice(part, digits).unwrap();
-    output.extend(digits)
+    output.extend_from_slice(digits)
 }
 
 /// Appends bytes in hex, two digits each, in lower case. After `NoMemory` a front of the digits may be there.
-pub fn push_hex(output: &mut Bytes, bytes: &[u8]) -> Result<(), NoMemory>
-    ensures { OnOk result (output.new ≡ output.old ++ encode_lower bytes.now) }
+pub fn push_hex(output: &mut Vec<u8>, bytes: &[u8]) -> Result<(), NoMemory>
+    ensures { OnOk result (output.new.items ≡ output.old.items ++ encode_lower bytes.now) }
 {
     let mut from = 0;
     'parts: while from < bytes.len() {
@@ -35,9 +34,9 @@ pub fn push_hex(output: &mut Bytes, bytes: &[u8]) -> Result<(), NoMemory>
 }
 
 /// Appends a number in decimal, without a superfluous zero. After `NoMemory` the bytes are as they were.
-pub fn push_number(output: &mut Bytes, number: u64) -> Result<(), NoMemory>
-    ensures { OnOk result (output.new ≡ output.old ++ decimal number) }
+pub fn push_number(output: &mut Vec<u8>, number: u64) -> Result<(), NoMemory>
+    ensures { OnOk result (output.new.items ≡ output.old.items ++ decimal number) }
 {
     let mut digits = Buffer::new();
-    output.extend(digits.format(number).as_bytes())
+    output.extend_from_slice(digits.format(number).as_bytes())
 }

@@ -11,7 +11,7 @@ lines-preserved c =
     let line : AdminLine = c.line.result.now in
     let old : Group = c.lines.group in
     let rest : Group → List ℕ = λ g. answers g (drop (c.lines.index + 1) lines) in
-    c.lines.invariant ∙ ap (λ (l : List AdminLine). c.lines.output ++ answers old l) (line_at lines c.lines.index line c.line.ensures.value)
-    ∙ sym (append_assoc c.lines.output (answer_to old line) (rest (after_line old line)))
+    c.lines.invariant ∙ ap (λ (l : List AdminLine). c.lines.output.items ++ answers old l) (line_at lines c.lines.index line c.line.ensures.value)
+    ∙ sym (append_assoc c.lines.output.items (answer_to old line) (rest (after_line old line)))
     ∙ ap (λ (out : List ℕ). out ++ rest (after_line old line)) (sym c.in_ok-answer.ensures.output)
-    ∙ ap (λ (g : Group). c.answer.new.output ++ rest g) (sym c.in_ok-answer.ensures.group)
+    ∙ ap (λ (g : Group). c.answer.new.output.items ++ rest g) (sym c.in_ok-answer.ensures.group)

@@ -5,4 +5,4 @@ use Rattle.admin_run.proofs.run.run_admin.Given as goal
 
 -- the lines before the place are answered, and those that are left complete the output
 abbrev pub invariant-lines : goal.invariant-lines
-invariant-lines l = answers first_group l.text ≡ l.output ++ answers l.group (drop l.index l.text)
+invariant-lines l = answers first_group l.text ≡ l.output.items ++ answers l.group (drop l.index l.text)

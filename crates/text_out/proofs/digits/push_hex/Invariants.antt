@@ -6,7 +6,7 @@ use Rattle.text_out.proofs.digits.push_hex.Given as goal
 abbrev pub invariant-parts : goal.invariant-parts
 invariant-parts l = record {
   within : l.from ≤ length l.bytes;
-  so_far : l.output ++ encode_lower (drop l.from l.bytes) ≡ l.fn.output ++ encode_lower l.bytes;
+  so_far : l.output.items ++ encode_lower (drop l.from l.bytes) ≡ l.fn.output.items ++ encode_lower l.bytes;
 }
 
 abbrev pub decreases-parts : goal.decreases-parts

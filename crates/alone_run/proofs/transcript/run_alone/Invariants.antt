@@ -1,7 +1,0 @@
-use Rattle.std.proofs.Common.{drop, codes}
-use Rattle.alone_run.specs.Kept.{SoFar}
-use Rattle.alone_run.proofs.transcript.run_alone.Given as goal
-
--- the lines before the place are shown
-abbrev pub invariant-lines : goal.invariant-lines
-invariant-lines l = SoFar l.initial.guest.member.made l.guest (codes "guest 1\n") l.output (drop l.index l.script.lines) l.script.lines

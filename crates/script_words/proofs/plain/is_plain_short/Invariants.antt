@@ -1,6 +1,0 @@
-use Rattle.std.proofs.Common.{◌≡◌, true, drop}
-use Rattle.script_words.specs.Kept.{goes_on}
-use Rattle.script_words.proofs.plain.is_plain_short.Given as goal
-
-abbrev pub invariant-bytes : goal.invariant-bytes
-invariant-bytes l = goes_on true l.before (drop l.byte-index l.line) ≡ goes_on true 32 l.line
