@@ -44,6 +44,13 @@ impl Model for AdminRing {
     ghost invariant = { λ r. Keeps r.size r.posted r.fetched r.completed r.floors r.table r.log };
 }
 
+/// A reply at a place of the history.
+fn answered(at: u64, reply: RingReply) -> Placed<RingReply>
+    ensures { result ≡ record { at = at; reply = reply } }
+{
+    Placed { at, reply }
+}
+
 /// The entries that the commands may still leave.
 fn owed(posted: u64, fetched: u64, completed: u64, table: &Slab<Slot>) -> u64
     requires fetched { fetched ≤ posted }
@@ -159,16 +166,10 @@ impl AdminRing {
         let at = self.log.length();
         if let Some(floors) = &self.floors {
             let floor = floors.at(tag.guest);
-            return Ok(Placed {
-                at,
-                reply: RingReply::Closed { floor },
-            });
+            return Ok(answered(at, RingReply::Closed { floor }));
         }
         if self.table.len() >= usize::from(self.size / 2) {
-            return Ok(Placed {
-                at,
-                reply: RingReply::Full,
-            });
+            return Ok(answered(at, RingReply::Full));
         }
         let more = owed(self.posted, self.fetched, self.completed, &self.table) + 4;
         if more > HISTORY_LIMIT - at {

@@ -57,6 +57,11 @@ abbrev pub queue_size_at : Option ℕ → Result ℕ Cause
 queue_size_at None = Err cause.Number
 queue_size_at (Some n) = when (is_queue_size n) cause.Number n
 
+-- bytes of any number
+abbrev pub any_bytes : Option (List ℕ) → Result (List ℕ) Cause
+any_bytes None = Err cause.Hex
+any_bytes (Some bytes) = Ok bytes
+
 -- bytes of a number within bounds
 abbrev pub bytes_within : ℕ → ℕ → Option (List ℕ) → Result (List ℕ) Cause
 bytes_within low high None = Err cause.Hex

@@ -3,13 +3,25 @@ ghost use Rattle.std.specs.Prelude.{◌≡◌, ◌≤◌, IfOk, OnOk, length, is
 ghost use Rattle.std.specs.List.{list_all};
 ghost use Rattle.hex.specs.Hex.{is_hex_digit, IsBytes};
 ghost use Rattle.board_text.specs.Hex.{hex_bytes};
-ghost use Rattle.script_words.specs.Values.{Gives, Steps, bytes_in, bytes_of_width as bytes_of_width_of};
+ghost use Rattle.script_words.specs.Values.{Gives, Steps, any_bytes, bytes_in, bytes_of_width as bytes_of_width_of};
 
 use crate::cause::{Cause, Fault};
 use crate::values::is_width;
 use crate::words::Word;
 use board_text::{Bytes, HexFault, Piece, read_hex};
 use std::alloc::Global;
+
+// The bytes that a word spells.
+fn read_bytes(alloc: Global, word: &Word) -> Result<Bytes, Fault>
+    ensures value { Gives result (any_bytes (hex_bytes word.now)) }
+    ensures each { IfOk result IsBytes }
+{
+    match read_hex(alloc, word.bytes()) {
+        Ok(bytes) => Ok(bytes),
+        Err(HexFault::Malformed(_)) => Err(Fault::Bad(Cause::Hex)),
+        Err(HexFault::NoMemory) => Err(Fault::NoMemory),
+    }
+}
 
 /// Bytes of a number within bounds, of any number. `hex` where the word spells no bytes, `range` where it
 /// spells too few or too many.
@@ -19,17 +31,25 @@ pub fn bytes(alloc: Global, word: &Word, low: usize, high: usize) -> Result<Byte
     ensures low { IfOk result (λ b. low ≤ length b) }
     ensures high { IfOk result (λ b. length b ≤ high) }
 {
-    match read_hex(alloc, word.bytes()) {
-        Ok(bytes) => {
-            let length = bytes.as_slice().len();
-            if low <= length && length <= high {
-                Ok(bytes)
-            } else {
-                Err(Fault::Bad(Cause::Range))
-            }
-        }
-        Err(HexFault::Malformed(_)) => Err(Fault::Bad(Cause::Hex)),
-        Err(HexFault::NoMemory) => Err(Fault::NoMemory),
+    let bytes = read_bytes(alloc, word)?;
+    let length = bytes.as_slice().len();
+    if low <= length && length <= high {
+        Ok(bytes)
+    } else {
+        Err(Fault::Bad(Cause::Range))
+    }
+}
+
+/// 1, 2 or 4 bytes. `hex` where the word spells no bytes, `range` where it spells another number of them.
+pub fn bytes_of_width(alloc: Global, word: &Word) -> Result<Bytes, Fault>
+    ensures value { Gives result (bytes_of_width_of (hex_bytes word.now)) }
+    ensures each { IfOk result IsBytes }
+{
+    let bytes = read_bytes(alloc, word)?;
+    if is_width(bytes.as_slice().len() as u64) {
+        Ok(bytes)
+    } else {
+        Err(Fault::Bad(Cause::Range))
     }
 }
 
@@ -92,22 +112,4 @@ pub fn piece(word: &Word, low: usize, high: usize) -> Result<Piece, Fault>
     let mut piece = Piece::new();
     fill_piece(word, low, high, &mut piece)?;
     Ok(piece)
-}
-
-/// 1, 2 or 4 bytes. `hex` where the word spells no bytes, `range` where it spells another number of them.
-pub fn bytes_of_width(alloc: Global, word: &Word) -> Result<Bytes, Fault>
-    ensures value { Gives result (bytes_of_width_of (hex_bytes word.now)) }
-    ensures each { IfOk result IsBytes }
-{
-    match read_hex(alloc, word.bytes()) {
-        Ok(bytes) => {
-            if is_width(bytes.as_slice().len() as u64) {
-                Ok(bytes)
-            } else {
-                Err(Fault::Bad(Cause::Range))
-            }
-        }
-        Err(HexFault::Malformed(_)) => Err(Fault::Bad(Cause::Hex)),
-        Err(HexFault::NoMemory) => Err(Fault::NoMemory),
-    }
 }

@@ -1,5 +1,6 @@
 //! The lines of actors and of the schedule.
 ghost use Rattle.std.specs.Prelude.{◌≡◌, ◌++◌, OnOk};
+ghost use Rattle.board_script.specs.declared.script.What.TheVariants.{BarRead, BarWrite};
 ghost use Rattle.script_writer.specs.Written.{actor_word, at_words, once_words, what_words, actor_words, turns_words, spaced, line_text};
 
 use crate::parts::{
@@ -55,6 +56,34 @@ fn put_tail(text: &mut Bytes, queue: Option<u32>, once: bool) -> Result<(), NoMe
     put_once(text, once)
 }
 
+// A read of the BAR.
+fn put_in(
+    text: &mut Bytes,
+    offset: u8,
+    length: u32,
+    queue: Option<u32>,
+    once: bool,
+) -> Result<(), NoMemory>
+    ensures { OnOk result (text.new ≡ text.old ++ spaced (what_words (BarRead offset length queue once))) }
+{
+    put_named_numbers(text, b"in", u64::from(offset), u64::from(length))?;
+    put_tail(text, queue, once)
+}
+
+// A write of the BAR.
+fn put_out(
+    text: &mut Bytes,
+    offset: u8,
+    bytes: &Bytes,
+    queue: Option<u32>,
+    once: bool,
+) -> Result<(), NoMemory>
+    ensures { OnOk result (text.new ≡ text.old ++ spaced (what_words (BarWrite offset bytes.now queue once))) }
+{
+    put_named_hex(text, b"out", u64::from(offset), bytes.as_slice())?;
+    put_tail(text, queue, once)
+}
+
 // What follows the actor.
 fn put_what(text: &mut Bytes, what: &What) -> Result<(), NoMemory>
     ensures { OnOk result (text.new ≡ text.old ++ spaced (what_words what.now)) }
@@ -65,19 +94,13 @@ fn put_what(text: &mut Bytes, what: &What) -> Result<(), NoMemory>
             length,
             queue,
             once,
-        } => {
-            put_named_numbers(text, b"in", u64::from(*offset), u64::from(*length))?;
-            put_tail(text, *queue, *once)
-        }
+        } => put_in(text, *offset, *length, *queue, *once),
         What::BarWrite {
             offset,
             bytes,
             queue,
             once,
-        } => {
-            put_named_hex(text, b"out", u64::from(*offset), bytes.as_slice())?;
-            put_tail(text, *queue, *once)
-        }
+        } => put_out(text, *offset, bytes, *queue, *once),
         What::Mem { addr, bytes } => put_named_hex(text, b"mem", *addr, bytes.as_slice()),
         What::Peek { addr, length } => {
             put_named_numbers(text, b"peek", *addr, u64::from(*length))
