@@ -4,6 +4,7 @@ use Rattle.std.specs.List.{slice_get}
 use Rattle.legacy_regs.specs.declared.device.Kind.{Kind}
 use Rattle.legacy_regs.specs.declared.device.Kind.TheVariants.{Block, Net}
 use Rattle.history.specs.Legal.{Cell}
+use Rattle.group_calls.specs.Limits.{group_limit}
 use Rattle.group_calls.specs.declared.owner.OwnerCall.{OwnerCall}
 use Rattle.group_calls.specs.declared.owner.OwnerCall.TheVariants.{SetVfs, Judge, Reset as ResetOwner}
 use Rattle.group_calls.specs.declared.owner.OwnerReply.{OwnerReply}
@@ -42,7 +43,7 @@ fresh_members zero = []
 fresh_members (suc before) = fresh_members before ++ fresh_member (before + 1) ∷ []
 
 abbrev pub first_group : Group
-first_group = record { owner = []; members = fresh_members 16 }
+first_group = record { owner = []; members = fresh_members group_limit }
 
 -- ---- calls. All are made by the actor 0
 

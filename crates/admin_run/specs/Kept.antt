@@ -1,16 +1,17 @@
 -- What the code keeps of a group, and what its functions do. Of this project.
 use Rattle.std.specs.Prelude.{◌≡◌, ℕ, ◌≤◌, List, [], ◌++◌, Option, None, Some, replicate, length}
 use Rattle.byte_fields.specs.Places.{bytes_of}
+use Rattle.group_calls.specs.Limits.{group_limit}
 use Rattle.group_calls.specs.declared.owner.OwnerReply.{OwnerReply}
 use Rattle.group_calls.specs.declared.member.MemberCall.{MemberCall}
 use Rattle.group_calls.specs.declared.member.MemberReply.{MemberReply}
 use Rattle.admin_run.specs.Group.{MemberCell, reply_of, acted}
 use Rattle.admin_run.specs.Completion.{verdict_done}
 
--- the owner was made for 16 members, and there are no more
+-- the owner was made for as many members as a group has at most, and there are no more
 pub record IsWhole (owner_made : ℕ) (members : List MemberCell) : Type 0 where
-  pub made_for : owner_made ≡ 16
-  pub few : length members ≤ 16
+  pub made_for : owner_made ≡ group_limit
+  pub few : length members ≤ group_limit
 
 -- a member was called, if it is there
 abbrev pub reply_at : MemberCall → Option MemberCell → Option MemberReply

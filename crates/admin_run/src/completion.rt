@@ -3,7 +3,7 @@ ghost use Rattle.std.specs.Prelude.{◌≡◌, ◌≤◌, ◌++◌, ◌-◌, ◌
 ghost use Rattle.byte_fields.specs.Places.{bytes_of};
 ghost use Rattle.hex.specs.Hex.{encode_lower};
 ghost use Rattle.admin_wire.specs.Done.{done_of};
-ghost use Rattle.admin_run.specs.Completion.{access_done};
+ghost use Rattle.serve_machine.specs.Completion.{access_done};
 ghost use Rattle.admin_run.specs.Answers.{done_line};
 ghost use Rattle.admin_run.specs.Kept.{fixed_of};
 

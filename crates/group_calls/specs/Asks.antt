@@ -1,5 +1,5 @@
 -- When an answer fits an ask. Of this project.
-use Rattle.std.specs.Prelude.{◌≡◌, ℕ, ◌≤◌, false, List, length}
+use Rattle.std.specs.Prelude.{◌≡◌, ℕ, ◌≤◌, false, List, [], ◌∷◌, length}
 use Rattle.history.specs.declared.entry.Entry.{Entry}
 use Rattle.history.specs.declared.entry.Placed.{Placed}
 use Rattle.history.specs.Limits.{history_limit}
@@ -49,3 +49,14 @@ AnswersAsk (Queue index call) NoMemory = takes_none call ≡ false
 AnswersAsk (Owner call) NoMemory = Unit {0}
 AnswersAsk (Member id floor call) NoMemory = Unit {0}
 AnswersAsk ask told = ⊥
+
+-- ---- exchanges
+
+-- an ask and its answer
+abbrev pub Exchange : Type 0
+Exchange = Ask × Told
+
+-- each ask of a list has an answer that fits it
+abbrev pub AreAnswered : List Exchange → Type 0
+AreAnswered [] = Unit {0}
+AreAnswered (x ∷ past) = AnswersAsk x.0 x.1 × AreAnswered past

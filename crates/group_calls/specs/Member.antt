@@ -1,8 +1,6 @@
 -- What a member answers, by what its history says.
 use Rattle.std.specs.Prelude.{ℕ, ◌+◌, ◌<◌, ◌≤◌, nat_le, Bool, true, false, not, ◌&&◌, List, [], ◌∷◌, Option, None, Some, length, if◌then◌else◌}
 use Rattle.byte_fields.specs.Places.{bytes_at}
-use Rattle.guest_mem.specs.declared.memory.TheConstants.{PAGE_LIMIT}
-use Rattle.blk_engine.specs.declared.disk.TheConstants.{SECTOR_LIMIT}
 use Rattle.admin_wire.specs.declared.command.LegacyCmd.{LegacyCmd}
 use Rattle.admin_wire.specs.declared.command.LegacyCmd.TheVariants.{CommonWrite, CommonRead, DevWrite, DevRead, Info as NotifyInfo}
 use Rattle.net_engine.specs.Frames.{backlog_limit, is_frame_length}
@@ -19,7 +17,7 @@ use Rattle.group_calls.specs.declared.member.MemberCall.{MemberCall}
 use Rattle.group_calls.specs.declared.member.MemberCall.TheVariants.{Act, Notify, Msix, MemWrite, MemRead, TakeIrqs, Step, Arrive, Flr, Kill}
 use Rattle.group_calls.specs.declared.member.MemberReply.{MemberReply}
 use Rattle.group_calls.specs.declared.member.MemberReply.TheVariants.{Data, Written, Info, Refused, Gone, Irqs, Arrived, BacklogFull, Killed}
-use Rattle.group_calls.specs.Limits.{member_limit}
+use Rattle.group_calls.specs.Limits.{member_limit, page_limit, sector_limit}
 use Rattle.group_calls.specs.MemberEntries.{MemberEntry}
 use Rattle.group_calls.specs.MemberQueues.{receives}
 use Rattle.group_calls.specs.Facts.{Facts, facts}
@@ -109,8 +107,8 @@ member_answer made h call = answer_by made (killed h) (facts made h) (memory_aft
 pub record IsMemberMade (made : MemberMade) : Type 0 where
   pub number : made.id ≤ member_limit
   pub some_memory : 1 ≤ made.pages
-  pub most_memory : made.pages ≤ PAGE_LIMIT
-  pub most_sectors : sectors_of made.kind ≤ SECTOR_LIMIT
+  pub most_memory : made.pages ≤ page_limit
+  pub most_sectors : sectors_of made.kind ≤ sector_limit
 
 -- what a call has to meet
 abbrev pub member_may : MemberMade → ℕ → MemberCall → Type 0

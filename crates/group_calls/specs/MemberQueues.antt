@@ -2,6 +2,7 @@
 use Rattle.std.specs.Prelude.{ℕ, ◌%◌, ◌^◌, ◌==◌, Bool, true, false, not, ◌&&◌, ◌||◌, List, [], ◌∷◌, ◌++◌, Option, None, Some, drop, length, bit_or}
 use Rattle.std.specs.List.{list_any}
 use Rattle.byte_fields.specs.Places.{le16}
+use Rattle.ring_layout.specs.Chain.{index_modulus}
 use Rattle.admin_wire.specs.declared.command.LegacyCmd.TheVariants.{CommonWrite}
 use Rattle.legacy_regs.specs.declared.device.Kind.{Kind}
 use Rattle.legacy_regs.specs.declared.device.Kind.TheVariants.{Block, Net}
@@ -54,7 +55,7 @@ is_step passes q e = elim e.call [ Step queue ↦ (queue == q) && passes e.reply
 
 -- where the queue stands in its ring: the number of its services, modulo 65,536
 abbrev pub position : List MemberEntry → ℕ → ℕ
-position run q = count (is_step is_served q) (fresh run q) % 65536
+position run q = count (is_step is_served q) (fresh run q) % index_modulus
 
 abbrev pub is_halted : List MemberEntry → ℕ → Bool
 is_halted run q = list_any (is_step is_halt q) (fresh run q)

@@ -3,7 +3,6 @@ use Rattle.std.specs.Prelude.{ℕ, ◌≤◌, ◌<◌, ◌==◌, nat_lt, nat_le,
 use Rattle.std.specs.Int.{bit_at}
 use Rattle.std.specs.List.{list_any}
 use Rattle.admin_wire.specs.Command.{command_of, list_of}
-use Rattle.admin_wire.specs.declared.numbers.TheConstants.{SR_IOV, LEGACY_NOTIFY_INFO}
 use Rattle.admin_wire.specs.declared.command.Body.{Body}
 use Rattle.admin_wire.specs.declared.command.Body.TheVariants.{Query, Use, Legacy as ToMember, Unknown}
 use Rattle.admin_wire.specs.declared.command.Command.{Command}
@@ -22,6 +21,14 @@ abbrev pub OwnerEntry : Type 0
 OwnerEntry = Entry OwnerCall OwnerReply
 
 -- ---- numbers: VIRTIO 1.3, 2.12.1 (group administration commands)
+
+-- the group type SR-IOV: 2.12 (device groups)
+abbrev pub sr_iov : ℕ
+sr_iov = 1
+
+-- the largest opcode, LEGACY_NOTIFY_INFO
+abbrev pub largest_opcode : ℕ
+largest_opcode = 6
 
 -- the opcodes 0 to 6, as bits. Of this project
 abbrev pub supported_list : ℕ
@@ -105,8 +112,8 @@ verdict_on h m Unknown = refused h m invalid_opcode
 abbrev pub verdict : List OwnerEntry → List ℕ → ℕ → OwnerReply
 verdict h bytes writable =
     let command : Command = command_of bytes writable in
-    if not (command.group_type == SR_IOV) then refused h command.member invalid_group else
-    if not (nat_le command.opcode LEGACY_NOTIFY_INFO && is_used h command.opcode) then refused h command.member invalid_opcode else
+    if not (command.group_type == sr_iov) then refused h command.member invalid_group else
+    if not (nat_le command.opcode largest_opcode && is_used h command.opcode) then refused h command.member invalid_opcode else
     verdict_on h command.member command.body
 
 -- what the owner answers

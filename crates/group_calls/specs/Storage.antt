@@ -1,9 +1,7 @@
 -- What a member's memory and disk hold after a history. Of this project; the writes of a service are those of VIRTIO 1.3, 2.7 and 5.2.6.
 use Rattle.std.specs.Prelude.{ℕ, ◌*◌, List, [], ◌∷◌, replicate, if◌then◌else◌}
 use Rattle.byte_fields.specs.Places.{overwrite}
-use Rattle.guest_mem.specs.declared.memory.TheConstants.{PAGE_SIZE}
 use Rattle.ring_layout.specs.Chain.{written}
-use Rattle.blk_engine.specs.declared.disk.TheConstants.{SECTOR_SIZE}
 use Rattle.legacy_regs.specs.declared.device.Kind.{Kind}
 use Rattle.legacy_regs.specs.declared.device.Kind.TheVariants.{Block, Net}
 use Rattle.group_calls.specs.declared.member.MemberMade.{MemberMade}
@@ -11,19 +9,20 @@ use Rattle.group_calls.specs.declared.member.MemberCall.{MemberCall}
 use Rattle.group_calls.specs.declared.member.MemberCall.TheVariants.{MemWrite, Step}
 use Rattle.group_calls.specs.declared.member.MemberReply.{MemberReply}
 use Rattle.group_calls.specs.declared.member.MemberReply.TheVariants.{Served}
+use Rattle.group_calls.specs.Limits.{page_size, sector_size}
 use Rattle.group_calls.specs.MemberEntries.{MemberEntry, is_done}
 use Rattle.group_calls.specs.Facts.{facts}
 use Rattle.group_calls.specs.Steps.{Outcome, stops, serves, outcome}
 
 abbrev pub memory_length : MemberMade → ℕ
-memory_length made = PAGE_SIZE * made.pages
+memory_length made = page_size * made.pages
 
 abbrev pub sectors_of : Kind → ℕ
 sectors_of (Block sectors read_only) = sectors
 sectors_of (Net mac) = 0
 
 abbrev pub disk_length : MemberMade → ℕ
-disk_length made = SECTOR_SIZE * sectors_of made.kind
+disk_length made = sector_size * sectors_of made.kind
 
 -- the memory after an outcome, and the disk
 abbrev pub memory_left : List ℕ → Outcome → List ℕ

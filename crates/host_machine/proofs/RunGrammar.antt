@@ -8,14 +8,14 @@ use Rattle.group_calls.specs.declared.ask.Ask.TheVariants.{Owner, Member}
 use Rattle.group_calls.specs.declared.ask.Told.TheVariants.{NoMemory}
 use Rattle.group_calls.specs.declared.owner.OwnerCall.TheVariants.{Reset as ResetOwner}
 use Rattle.group_calls.specs.declared.member.MemberCall.TheVariants.{Kill}
-use Rattle.group_calls.specs.Asks.{AnswersAsk}
+use Rattle.group_calls.specs.Asks.{AnswersAsk, Exchange, AreAnswered}
 use Rattle.host_machine.specs.declared.line.HostLine.{HostLine}
 use Rattle.host_machine.specs.declared.line.HostLine.TheVariants.{Frame, Flr, Disable, Reset}
 use Rattle.host_machine.specs.declared.going.Way.{Way}
 use Rattle.host_machine.specs.declared.going.Way.TheVariants.{Delivering, Restarting, Disabling, Leaving, Killing, Resetting, Closing, Ended}
 use Rattle.host_machine.specs.declared.going.Going.{Going}
 use Rattle.host_machine.specs.Machine.{floor_of, killing, closing, killed, first, ask_on, next_ask, turned_from, turned}
-use Rattle.host_machine.specs.Grammar.{Exchange, AreAnswered, IsOn, AreKills, floors_shown, AreResets, IsLine, is_delivered, is_restarted, is_disabled, all_are_reset, IsAnsweredLine, BeginsLine}
+use Rattle.host_machine.specs.Grammar.{IsOn, AreKills, floors_shown, AreResets, IsLine, is_delivered, is_restarted, is_disabled, all_are_reset, IsAnsweredLine, BeginsLine}
 use Rattle.host_machine.specs.Runs.{going_after, AreAsked, IsWholeRun, IsOpenRun}
 
 some_same : {A : Type 0} (x y : A) → Some x ≡ Some y → x ≡ y

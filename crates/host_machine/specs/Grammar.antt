@@ -1,25 +1,14 @@
 -- A line of the host as a grammar of what is asked and answered. Of this project; members and their owner are those of VIRTIO 1.3, 2.12 (device groups), and queues those of 2.13 (administration virtqueues).
 use Rattle.std.specs.Prelude.{◌≡◌, ℕ, ◌+◌, List, [], ◌∷◌, ◌++◌, length}
-use Rattle.group_calls.specs.declared.ask.Ask.{Ask}
 use Rattle.group_calls.specs.declared.ask.Ask.TheVariants.{Owner, Queue, Member}
-use Rattle.group_calls.specs.declared.ask.Told.{Told}
 use Rattle.group_calls.specs.declared.owner.OwnerCall.TheVariants.{Gone as IsGone, Reset as ResetOwner}
 use Rattle.group_calls.specs.declared.queue.RingCall.TheVariants.{Reset as ResetQueue}
 use Rattle.group_calls.specs.declared.member.MemberCall.{MemberCall}
 use Rattle.group_calls.specs.declared.member.MemberCall.TheVariants.{Arrive, Flr as ResetMember, Kill}
-use Rattle.group_calls.specs.Asks.{AnswersAsk}
+use Rattle.group_calls.specs.Asks.{Exchange, AreAnswered}
 use Rattle.host_machine.specs.declared.line.HostLine.{HostLine}
 use Rattle.host_machine.specs.declared.line.HostLine.TheVariants.{Frame, Flr, Disable, Reset}
 use Rattle.host_machine.specs.Machine.{floor_of}
-
--- an ask and its answer
-abbrev pub Exchange : Type 0
-Exchange = Ask × Told
-
--- each ask of a list has an answer that fits it
-abbrev pub AreAnswered : List Exchange → Type 0
-AreAnswered [] = Unit {0}
-AreAnswered (x ∷ past) = AnswersAsk x.0 x.1 × AreAnswered past
 
 -- a call on a member
 abbrev pub IsOn : ℕ → MemberCall → Exchange → Type 0

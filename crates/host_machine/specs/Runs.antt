@@ -1,9 +1,9 @@
 -- What the machine of a line asks, as lists with the latest ask first. Of this project.
 use Rattle.std.specs.Prelude.{◌≡◌, ℕ, List, [], ◌∷◌, None, Some, IsSome}
+use Rattle.group_calls.specs.Asks.{Exchange, AreAnswered}
 use Rattle.host_machine.specs.declared.line.HostLine.{HostLine}
 use Rattle.host_machine.specs.declared.going.Going.{Going}
 use Rattle.host_machine.specs.Machine.{first, next_ask, turned}
-use Rattle.host_machine.specs.Grammar.{Exchange, AreAnswered}
 
 -- how far a machine is that was fed these answers
 abbrev pub going_after : ℕ → ℕ → HostLine → List Exchange → Going

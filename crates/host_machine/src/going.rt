@@ -1,6 +1,6 @@
 //! How far a line is, and how it goes on.
 ghost use Rattle.std.specs.Prelude.{◌≡◌, ◌+◌, ◌<◌, ◌≤◌, [], ◌∷◌, ◌++◌, length};
-ghost use Rattle.board_text.specs.declared.floors.TheConstants.{FLOOR_LIMIT};
+ghost use Rattle.group_calls.specs.Limits.{group_limit};
 ghost use Rattle.host_machine.specs.Machine.{floor_of, first, killing, closing, turned};
 ghost use Rattle.host_machine.specs.Within.{IsLow, kills_in, queue_in};
 
@@ -88,7 +88,7 @@ pub(crate) fn first(members: u32, line: HostLine) -> Going
 
 // One member more was killed.
 fn killed(members: u32, floors: &Floors, floor: u64) -> Going
-    requires { length floors.now < FLOOR_LIMIT }
+    requires { length floors.now < group_limit }
     ensures floors { result.floors ≡ floors.now ++ floor ∷ [] }
     ensures way { result.way ≡ killing members (floors.now ++ floor ∷ []) }
 {
@@ -102,7 +102,7 @@ fn killed(members: u32, floors: &Floors, floor: u64) -> Going
 
 /// After the answer to the ask.
 pub(crate) fn turned(members: u32, queues: u32, going: &Going, told: &Told) -> Going
-    requires few { members ≤ FLOOR_LIMIT }
+    requires few { members ≤ group_limit }
     requires room { kills_in going.now.way + length going.now.floors ≤ members }
     requires queue { queue_in going.now.way ≤ queues }
     requires low { IsLow told.now }

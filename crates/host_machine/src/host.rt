@@ -1,6 +1,6 @@
 //! A line of the host as a machine.
 ghost use Rattle.std.specs.Prelude.{◌≡◌, ◌+◌, ◌≤◌, false, length, IfOk, IsOk, IsSomeAnd};
-ghost use Rattle.board_text.specs.declared.floors.TheConstants.{FLOOR_LIMIT};
+ghost use Rattle.group_calls.specs.Limits.{group_limit};
 ghost use Rattle.group_calls.specs.Asks.{AnswersAsk};
 ghost use Rattle.host_machine.specs.Machine.{first, next_ask, turned};
 ghost use Rattle.host_machine.specs.Within.{kills_in, queue_in, has_frame};
@@ -17,7 +17,7 @@ pub struct Host {
     members: u32,
     queues: u32,
     going: Going,
-    ghost few: { members ≤ FLOOR_LIMIT },
+    ghost few: { members ≤ group_limit },
     ghost room: { kills_in going.way + length going.floors ≤ members },
     ghost some_queue: { queue_in going.way ≤ queues },
 }
@@ -32,7 +32,7 @@ fn on_member(id: u32, call: MemberCall) -> Ask
 impl Host {
     /// A line of a group of at most 16 members and so many queues, which begins.
     pub fn new(line: HostLine, members: u32, queues: u32) -> Host
-        requires { members ≤ FLOOR_LIMIT }
+        requires { members ≤ group_limit }
         ensures members { result.members ≡ members }
         ensures queues { result.queues ≡ queues }
         ensures going { result.going ≡ first members line }

@@ -1,7 +1,8 @@
 //! What the host asks, as a grammar.
 ghost use Rattle.std.specs.Prelude.{ℕ, List, ◌↔◌};
+ghost use Rattle.group_calls.specs.Asks.{Exchange};
 ghost use Rattle.host_machine.specs.declared.line.HostLine.{HostLine};
-ghost use Rattle.host_machine.specs.Grammar.{Exchange, IsAnsweredLine, BeginsLine};
+ghost use Rattle.host_machine.specs.Grammar.{IsAnsweredLine, BeginsLine};
 ghost use Rattle.host_machine.specs.Runs.{IsWholeRun, IsOpenRun};
 
 /// What `Host` asks until nothing is left is its line by the grammar, and what it has asked before is the beginning of it.

@@ -7,7 +7,7 @@ use Rattle.group_calls.specs.declared.ask.Told.TheVariants.{Owner as FromOwner, 
 use Rattle.group_calls.specs.declared.owner.OwnerCall.TheVariants.{Judge}
 use Rattle.group_calls.specs.declared.owner.OwnerReply.{OwnerReply}
 use Rattle.group_calls.specs.declared.owner.OwnerReply.TheVariants.{Done, List as Listed, Used, Refused, Legacy}
-use Rattle.group_calls.specs.Asks.{AnswersAsk}
+use Rattle.group_calls.specs.Asks.{AnswersAsk, Exchange, AreAnswered}
 use Rattle.group_calls.specs.declared.queue.RingCall.TheVariants.{Pop, Complete}
 use Rattle.group_calls.specs.declared.queue.RingReply.{RingReply}
 use Rattle.group_calls.specs.declared.queue.RingReply.TheVariants.{Fetched as Fetches}
@@ -18,7 +18,7 @@ use Rattle.serve_machine.specs.declared.stage.Fetched.{Fetched}
 use Rattle.serve_machine.specs.declared.stage.Stage.{Stage}
 use Rattle.serve_machine.specs.declared.stage.Stage.TheVariants.{Popping, Judging, Acting, Completing, Ended}
 use Rattle.serve_machine.specs.Service.{next_ask, after, after_pop, after_judge, after_act}
-use Rattle.serve_machine.specs.Grammar.{Exchange, AreAnswered, IsAnsweredService}
+use Rattle.serve_machine.specs.Grammar.{IsAnsweredService}
 use Rattle.serve_machine.specs.Runs.{stage_after, AreAsked, IsWholeRun}
 use Rattle.serve_machine.specs.Within.{IsWithinAsk}
 use Rattle.machine_board.specs.declared.cells.Cells.{Cells}

@@ -19,7 +19,7 @@ use Rattle.group_calls.specs.declared.ask.Told.TheVariants.{Owner as FromOwner, 
 use Rattle.group_calls.specs.Owner.{owner_answer}
 use Rattle.group_calls.specs.Queue.{queue_answer, is_quiet_reply}
 use Rattle.group_calls.specs.Member.{member_answer}
-use Rattle.serve_machine.specs.Grammar.{Exchange}
+use Rattle.group_calls.specs.Asks.{Exchange}
 use Rattle.machine_board.specs.declared.cells.Cells.{Cells}
 
 abbrev pub OwnerCell : Type 0

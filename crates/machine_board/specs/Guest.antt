@@ -4,7 +4,8 @@ use Rattle.group_calls.specs.declared.ask.Ask.{Ask}
 use Rattle.group_calls.specs.declared.ask.Told.{Told}
 use Rattle.group_calls.specs.declared.ask.Told.TheVariants.{Queue as FromQueue}
 use Rattle.group_calls.specs.declared.queue.RingReply.TheVariants.{NotYet}
-use Rattle.serve_machine.specs.Grammar.{Exchange, IsAnsweredService}
+use Rattle.group_calls.specs.Asks.{Exchange}
+use Rattle.serve_machine.specs.Grammar.{IsAnsweredService}
 use Rattle.vfio_driver.specs.declared.access.Answer.{Answer}
 use Rattle.vfio_driver.specs.declared.driver.Driver.{Driver}
 use Rattle.vfio_driver.specs.Access.{next_ask, turned}

@@ -3,6 +3,7 @@ use Rattle.std.proofs.Common.{◌≡◌, ℕ, ◌+◌, ◌%◌, Bool, true, fals
 use Rattle.std.specs.Prelude.{◌==◌, ◌||◌, ◌&&◌, length, None, slice_index_or}
 use Rattle.std.specs.List.{list_any}
 use Rattle.history.specs.Look.{count, after_latest}
+use Rattle.ring_layout.specs.Chain.{index_modulus}
 use Rattle.admin_wire.specs.declared.command.LegacyCmd.TheVariants.{CommonWrite, CommonRead, DevWrite, DevRead, Info}
 use Rattle.legacy_regs.specs.declared.device.Kind.{Kind}
 use Rattle.group_calls.specs.declared.member.MemberCall.{MemberCall}
@@ -18,15 +19,15 @@ use Rattle.member_core.specs.Queues.{tells_queues, queue_facts, first_facts, goe
 -- what is kept of a queue, by the entries since it began afresh
 abbrev facts_of : Kind → ℕ → List MemberEntry → QueueFacts
 facts_of kind q since = record {
-  position = count (is_step is_served q) since % 65536;
+  position = count (is_step is_served q) since % index_modulus;
   notified = list_any (notifies kind q) (after_latest (is_step is_empty q) since);
   halted = list_any (is_step is_halt q) since;
 }
 
-wraps : (n : ℕ) → (n + 1) % 65536 ≡ (n % 65536 + 1) % 65536
+wraps : (n : ℕ) → (n + 1) % index_modulus ≡ (n % index_modulus + 1) % index_modulus
 wraps n = omega arith
 
-counted : (b : Bool) (n : ℕ) → cond b (n + 1) n % 65536 ≡ cond b ((n % 65536 + 1) % 65536) (n % 65536)
+counted : (b : Bool) (n : ℕ) → cond b (n + 1) n % index_modulus ≡ cond b ((n % index_modulus + 1) % index_modulus) (n % index_modulus)
 counted true n = wraps n
 counted false n = refl
 

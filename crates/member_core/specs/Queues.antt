@@ -1,6 +1,7 @@
 -- What is kept of a queue, and what an entry makes of it. The code's own.
 use Rattle.std.specs.Prelude.{ℕ, ◌+◌, ◌%◌, ◌==◌, Bool, true, false, not, ◌&&◌, ◌||◌, List, [], ◌∷◌, slice_index_or, if◌then◌else◌}
 use Rattle.admin_wire.specs.declared.command.LegacyCmd.TheVariants.{CommonWrite}
+use Rattle.ring_layout.specs.Chain.{index_modulus}
 use Rattle.legacy_regs.specs.declared.device.Kind.{Kind}
 use Rattle.legacy_regs.specs.declared.accesses.Space.TheVariants.{Common}
 use Rattle.group_calls.specs.declared.member.MemberCall.{MemberCall}
@@ -36,7 +37,7 @@ begins q selected e = is_reset e || ((q == selected) && is_address_write (done_w
 -- after an entry with which the queue doesn't begin afresh
 abbrev pub goes_on : Kind → ℕ → MemberEntry → QueueFacts → QueueFacts
 goes_on kind q e f = record {
-  position = if is_step is_served q e then (f.position + 1) % 65536 else f.position;
+  position = if is_step is_served q e then (f.position + 1) % index_modulus else f.position;
   notified = if is_step is_empty q e then false else notifies kind q e || f.notified;
   halted = is_step is_halt q e || f.halted;
 }

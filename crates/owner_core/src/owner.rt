@@ -2,7 +2,7 @@
 ghost use Rattle.std.specs.Prelude.{◌≡◌, ◌≤◌, ℕ, []};
 ghost use Rattle.history.specs.Legal.{never_quiet, never_spares};
 ghost use Rattle.group_calls.specs.Limits.{writable_limit};
-ghost use Rattle.group_calls.specs.Owner.{is_used, is_away, refusal_floor, refused, verdict_on, verdict, owner_answer, owner_may};
+ghost use Rattle.group_calls.specs.Owner.{largest_opcode, is_used, is_away, refusal_floor, refused, verdict_on, verdict, owner_answer, owner_may};
 
 use crate::looking::{away_found, floor_found};
 use crate::numbers::{
@@ -103,7 +103,7 @@ impl Owner {
     }
 
     fn is_used(&self, opcode: u16) -> bool
-        requires { opcode ≤ LEGACY_NOTIFY_INFO }
+        requires { opcode ≤ largest_opcode }
         ensures { result ≡ is_used self.now.history opcode }
     {
         opcode <= LIST_USE || (self.in_use >> opcode) & 1 == 1

@@ -2,6 +2,7 @@
 ghost use Rattle.std.specs.Prelude.{◌≡◌, ◌-◌, ◌<◌, ◌≤◌, ◌∷◌, ℕ, List, slice_index};
 ghost use Rattle.admin_wire.specs.Command.{list_of};
 ghost use Rattle.board_text.specs.Floors.{number_for};
+ghost use Rattle.group_calls.specs.Limits.{group_limit};
 ghost use Rattle.group_calls.specs.declared.owner.OwnerReply.{OwnerReply};
 ghost use Rattle.group_calls.specs.Owner.{OwnerEntry, vf_count, list_in_use};
 ghost use Rattle.owner_core.specs.Kept.{AreFloors, AreAway, AreNear};
@@ -53,7 +54,7 @@ pub(crate) fn in_use_after(in_use: u64, call: &OwnerCall, reply: &OwnerReply) ->
 
 // The floors of a Reset, one for each member.
 fn spread(floors: &Floors) -> [u64; FLOOR_LIMIT]
-    ensures { (m : ℕ) → 0 < m → m ≤ FLOOR_LIMIT → slice_index result (m - 1) ≡ number_for m floors.now }
+    ensures { (m : ℕ) → 0 < m → m ≤ group_limit → slice_index result (m - 1) ≡ number_for m floors.now }
 {
     let mut told = [0; FLOOR_LIMIT];
     for at in 0..FLOOR_LIMIT {

@@ -1,9 +1,12 @@
 use super::*;
 use board_text::Bytes;
 use guest_mem::GuestMem;
-use ring_layout::{Layout, MEMBER_RING_SIZE, legacy};
+use ring_layout::{Layout, legacy};
 use std::alloc::Global;
 use std::test::Fail;
+
+// How many descriptors the rings of these tests have.
+const RING_SIZE: u16 = 16;
 
 fn is_layout(got: Option<Layout>, table: u64, avail: u64, used: u64, end: u64) -> bool {
     match got {
@@ -38,7 +41,7 @@ fn a_block_request_is_a_chain(rt: HostRuntime) -> Result<(), Fail> {
     mem.write(12800, &[0xaa, 0xbb, 0xcc, 0xdd]);
     mem.write(4096, &TABLE);
     mem.write(4352, &[0, 0, 1, 0, 0, 0]);
-    let layout = legacy(1, MEMBER_RING_SIZE, mem.length()).ok_or("a ring")?;
+    let layout = legacy(1, RING_SIZE, mem.length()).ok_or("a ring")?;
     let Ok(Found::Chain(chain)) = next_chain(rt.alloc(), &mem, &layout, 0) else {
         return Err("a chain".into());
     };
@@ -81,7 +84,7 @@ fn found_with(alloc: Global, first: [u8; 16], avail: [u8; 6]) -> Option<Stands> 
     mem.write(4096, &TABLE);
     mem.write(4096, &first);
     mem.write(4352, &avail);
-    let layout = legacy(1, MEMBER_RING_SIZE, mem.length())?;
+    let layout = legacy(1, RING_SIZE, mem.length())?;
     match next_chain(alloc, &mem, &layout, 0).ok()? {
         Found::Chain(_) => Some(Stands::Chain),
         Found::Empty => Some(Stands::Nothing),
@@ -142,7 +145,7 @@ fn two_buffers_are_a_pair(rt: HostRuntime) -> Result<(), Fail> {
     let mut mem = GuestMem::new(rt.alloc(), 4).ok().ok_or("a memory")?;
     mem.write(4096, &TABLE);
     mem.write(4352, &[0, 0, 3, 0, 1, 0, 2, 0, 1, 0]);
-    let layout = legacy(1, MEMBER_RING_SIZE, mem.length()).ok_or("a ring")?;
+    let layout = legacy(1, RING_SIZE, mem.length()).ok_or("a ring")?;
     let pair = PairFound::Pair {
         head: 1,
         readable: 0x3200,

@@ -6,6 +6,10 @@ use Rattle.byte_fields.specs.Places.{le16, le32, le64, bytes_at, overwrite, byte
 use Rattle.ring_layout.specs.declared.layout.Layout.{Layout}
 use Rattle.ring_layout.specs.declared.descriptor.Descriptor.{Descriptor}
 
+-- the index of either ring is a 16-bit number, so it runs modulo this: 2.7.6, 2.7.8
+abbrev pub index_modulus : ℕ
+index_modulus = 65536
+
 -- the descriptor at an index of the table: 2.7.5
 unfoldable pub descriptor : List ℕ → Layout → ℕ → Descriptor
 descriptor mem l i = record {
@@ -29,9 +33,9 @@ is_indirect d = bit_and d.flags.0 4 == 4
 unfoldable pub available : List ℕ → Layout → ℕ → ℕ
 available mem l pos = le16 (l.avail + 4 + 2 * (pos % l.size)) mem
 
--- how many entries are available from a position on, indices running modulo 65,536: 2.7.6
+-- how many entries are available from a position on: 2.7.6
 unfoldable pub gap : List ℕ → Layout → ℕ → ℕ
-gap mem l pos = (le16 (l.avail + 2) mem + (65536 - pos)) % 65536
+gap mem l pos = (le16 (l.avail + 2) mem + (index_modulus - pos)) % index_modulus
 
 -- the buffer lies in a memory of this length; of this project
 abbrev pub is_inside : ℕ → Descriptor → Bool
@@ -128,7 +132,7 @@ scattered (d ∷ ds) bytes = record { addr = d.addr; bytes = take d.len bytes } 
 abbrev pub used_writes : Layout → ℕ → ℕ → ℕ → List Write
 used_writes l pos head count =
     record { addr = l.used + 4 + 8 * (pos % l.size); bytes = bytes_of 4 head ++ bytes_of 4 count }
-    ∷ record { addr = l.used + 2; bytes = bytes_of 2 ((pos + 1) % 65536) } ∷ []
+    ∷ record { addr = l.used + 2; bytes = bytes_of 2 ((pos + 1) % index_modulus) } ∷ []
 
 -- the memory after these writes, one after the other; of this project
 abbrev pub written : List Write → List ℕ → List ℕ

@@ -19,9 +19,6 @@ pub struct Layout {
     pub size: u16,
 }
 
-/// How many descriptors each virtqueue of a member has: a number of this project.
-pub const MEMBER_RING_SIZE: u16 = 16;
-
 // How many bytes one descriptor, one entry of the available ring and one element of the used ring have.
 pub(crate) const DESCRIPTOR_SIZE: u64 = 16;
 

@@ -12,4 +12,4 @@ mod layout;
 
 pub use descriptor::{DescFlags, Descriptor, read_descriptor};
 pub use laws::{a_chain_is_found, only_one_chain};
-pub use layout::{Layout, MEMBER_RING_SIZE, legacy};
+pub use layout::{Layout, legacy};

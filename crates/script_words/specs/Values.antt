@@ -19,7 +19,13 @@ Gives (Ok found) read = read ≡ Ok found
 Gives (Err (fault.Bad found)) read = read ≡ Err found
 Gives (Err fault.NoMemory) read = Unit {0}
 
--- the same, of a function that changes what it was handed
+-- the same, of a function that takes no memory
+abbrev pub GivesAlways : {A : Type 0} → Result A Fault → Result A Cause → Type 0
+GivesAlways (Ok found) read = read ≡ Ok found
+GivesAlways (Err (fault.Bad found)) read = read ≡ Err found
+GivesAlways (Err fault.NoMemory) read = ⊥
+
+-- the same as the first, of a function that changes what it was handed
 abbrev pub Steps : {A U : Type 0} → Result U Fault → A → Result A Cause → Type 0
 Steps (Ok done) new read = read ≡ Ok new
 Steps (Err (fault.Bad found)) new read = read ≡ Err found

@@ -1,9 +1,10 @@
 //! What a word stands for where it must be hex.
-ghost use Rattle.std.specs.Prelude.{◌≡◌, ◌≤◌, IfOk, OnOk, length, is_some, None, IsSome};
+ghost use Rattle.std.specs.Prelude.{◌≡◌, ◌≢◌, ◌≤◌, IfOk, IfErr, OnOk, length, is_some, None, IsSome};
 ghost use Rattle.std.specs.List.{list_all};
 ghost use Rattle.hex.specs.Hex.{is_hex_digit, IsBytes};
 ghost use Rattle.board_text.specs.Hex.{hex_bytes};
-ghost use Rattle.script_words.specs.Values.{Gives, Steps, any_bytes, bytes_in, bytes_of_width as bytes_of_width_of};
+ghost use Rattle.script_words.specs.declared.cause.Fault.TheVariants.{NoMemory};
+ghost use Rattle.script_words.specs.Values.{Gives, GivesAlways, Steps, any_bytes, bytes_in, bytes_of_width as bytes_of_width_of};
 
 use crate::cause::{Cause, Fault};
 use crate::values::is_width;
@@ -86,6 +87,7 @@ fn fault_without_piece(word: &Word) -> Fault
 pub fn fill_piece(word: &Word, low: usize, high: usize, piece: &mut Piece) -> Result<(), Fault>
     requires { high ≤ 256 }
     ensures value { Steps result piece.new (bytes_in low high word.now) }
+    ensures memory { IfErr result (λ fault. fault ≢ NoMemory) }
     ensures each { OnOk result (IsBytes piece.new) }
     ensures low { OnOk result (low ≤ length piece.new) }
     ensures high { OnOk result (length piece.new ≤ high) }
@@ -104,7 +106,7 @@ pub fn fill_piece(word: &Word, low: usize, high: usize, piece: &mut Piece) -> Re
 /// Bytes of a number within bounds, of at most 256. It takes no memory.
 pub fn piece(word: &Word, low: usize, high: usize) -> Result<Piece, Fault>
     requires { high ≤ 256 }
-    ensures value { Gives result (bytes_in low high word.now) }
+    ensures value { GivesAlways result (bytes_in low high word.now) }
     ensures each { IfOk result IsBytes }
     ensures low { IfOk result (λ b. low ≤ length b) }
     ensures high { IfOk result (λ b. length b ≤ high) }

@@ -1,7 +1,7 @@
 //! What a word stands for where it must be a number or hex.
 ghost use Rattle.std.specs.Prelude.{◌≡◌, ◌≤◌, ◌<◌, ◌^◌, IfOk};
 ghost use Rattle.board_text.specs.Number.{number_of};
-ghost use Rattle.script_words.specs.Values.{Gives, number_in, any_number, is_width as is_width_of, width_at, is_queue_size as is_queue_size_of, queue_size_at, among as among_of};
+ghost use Rattle.script_words.specs.Values.{GivesAlways, number_in, any_number, is_width as is_width_of, width_at, is_queue_size as is_queue_size_of, queue_size_at, among as among_of};
 
 use crate::cause::{Cause, Fault};
 use crate::words::Word;
@@ -19,7 +19,7 @@ pub fn number_at(word: &Word) -> Option<u64>
 
 /// A number within bounds.
 pub fn number(word: &Word, low: u64, high: u64) -> Result<u64, Fault>
-    ensures value { Gives result (number_in low high word.now) }
+    ensures value { GivesAlways result (number_in low high word.now) }
     ensures bound { IfOk result (λ n. n ≤ high) }
 {
     let Some(number) = number_at(word) else {
@@ -34,7 +34,7 @@ pub fn number(word: &Word, low: u64, high: u64) -> Result<u64, Fault>
 
 /// A number of any size.
 pub fn large_number(word: &Word) -> Result<u64, Fault>
-    ensures { Gives result (any_number (number_of word.now)) }
+    ensures { GivesAlways result (any_number (number_of word.now)) }
 {
     match number_at(word) {
         Some(number) => Ok(number),
@@ -50,7 +50,7 @@ pub(crate) fn is_width(number: u64) -> bool
 
 /// 1, 2 or 4.
 pub fn width(word: &Word) -> Result<u32, Fault>
-    ensures { Gives result (width_at (number_of word.now)) }
+    ensures { GivesAlways result (width_at (number_of word.now)) }
 {
     match number_at(word) {
         Some(number) => {
@@ -78,7 +78,7 @@ fn is_queue_size(number: u64) -> bool
 
 /// A power of two from 4 to 256.
 pub fn queue_size(word: &Word) -> Result<u32, Fault>
-    ensures { Gives result (queue_size_at (number_of word.now)) }
+    ensures { GivesAlways result (queue_size_at (number_of word.now)) }
 {
     match number_at(word) {
         Some(number) => {
@@ -95,7 +95,7 @@ pub fn queue_size(word: &Word) -> Result<u32, Fault>
 /// One of those that exist.
 pub fn among(word: &Word, low: u64, end: u64) -> Result<u32, Fault>
     requires { end < 2 ^ 32 }
-    ensures value { Gives result (among_of low end (number_of word.now)) }
+    ensures value { GivesAlways result (among_of low end (number_of word.now)) }
     ensures bound { IfOk result (λ n. n < end) }
     ensures low { IfOk result (λ n. low ≤ n) }
 {

@@ -14,13 +14,13 @@ use Rattle.group_calls.specs.declared.queue.RingReply.TheVariants.{Fetched as Fe
 use Rattle.group_calls.specs.declared.member.MemberCall.TheVariants.{Act}
 use Rattle.group_calls.specs.declared.member.MemberReply.{MemberReply}
 use Rattle.group_calls.specs.declared.member.MemberReply.TheVariants.{Data, Written, Info, Refused as RefusedIt, Gone}
-use Rattle.group_calls.specs.Asks.{AnswersAsk}
+use Rattle.group_calls.specs.Asks.{AnswersAsk, Exchange, AreAnswered}
 use Rattle.group_calls.specs.Queue.{Posted}
 use Rattle.serve_machine.specs.declared.stage.Fetched.{Fetched}
 use Rattle.serve_machine.specs.declared.stage.Stage.{Stage}
 use Rattle.serve_machine.specs.declared.stage.Stage.TheVariants.{Popping, Judging, Acting, Completing, Ended}
 use Rattle.serve_machine.specs.Service.{next_ask, after, after_pop, after_judge, after_act}
-use Rattle.serve_machine.specs.Grammar.{Exchange, AreAnswered, FindsNothing, Finds, IsPop, IsJudge, passed_on, IsAct, completed_with, behind, refusal, IsService, finds_nothing, is_decided, is_carried_out, IsAnsweredService, BeginsService}
+use Rattle.serve_machine.specs.Grammar.{FindsNothing, Finds, IsPop, IsJudge, passed_on, IsAct, completed_with, behind, refusal, IsService, finds_nothing, is_decided, is_carried_out, IsAnsweredService, BeginsService}
 use Rattle.serve_machine.specs.Runs.{stage_after, AreAsked, IsWholeRun, IsOpenRun}
 use Rattle.serve_machine.proofs.Replies.{IsPopReply, IsPopTold, pop_told, IsVerdict, IsJudgeTold, judge_told, IsActReply, IsMemberTold, act_answered}
 

@@ -1,30 +1,18 @@
 -- One service of an administration queue as a grammar of what is asked and answered: VIRTIO 1.3, 2.12.1 (group administration commands) and 2.13 (administration virtqueues). Floors are of this project.
 use Rattle.std.specs.Prelude.{◌≡◌, ℕ, ◌+◌, max, List, [], ◌∷◌, ◌++◌, Option, None, Some}
-use Rattle.byte_fields.specs.Places.{bytes_of}
 use Rattle.admin_wire.specs.Done.{done_of}
 use Rattle.admin_wire.specs.declared.command.LegacyCmd.{LegacyCmd}
-use Rattle.group_calls.specs.declared.ask.Ask.{Ask}
 use Rattle.group_calls.specs.declared.ask.Ask.TheVariants.{Owner, Queue, Member}
 use Rattle.group_calls.specs.declared.ask.Told.{Told}
 use Rattle.group_calls.specs.declared.ask.Told.TheVariants.{Owner as FromOwner, Queue as FromQueue, Member as FromMember, NoMemory}
 use Rattle.group_calls.specs.declared.owner.OwnerCall.TheVariants.{Judge}
-use Rattle.group_calls.specs.declared.owner.OwnerReply.TheVariants.{List as Listed, Used, Refused, Legacy}
+use Rattle.group_calls.specs.declared.owner.OwnerReply.TheVariants.{Refused, Legacy}
 use Rattle.group_calls.specs.declared.queue.RingCall.TheVariants.{Pop, Complete}
 use Rattle.group_calls.specs.declared.queue.RingReply.TheVariants.{Fetched, Empty, InService}
 use Rattle.group_calls.specs.declared.member.MemberCall.TheVariants.{Act}
-use Rattle.group_calls.specs.declared.member.MemberReply.TheVariants.{Data, Written, Info, Refused as RefusedIt, Gone}
-use Rattle.group_calls.specs.Asks.{AnswersAsk}
+use Rattle.group_calls.specs.Asks.{Exchange, AreAnswered}
 use Rattle.group_calls.specs.Queue.{Posted}
-use Rattle.serve_machine.specs.Completion.{info}
-
--- an ask and its answer
-abbrev pub Exchange : Type 0
-Exchange = Ask × Told
-
--- each ask of a list has an answer that fits it
-abbrev pub AreAnswered : List Exchange → Type 0
-AreAnswered [] = Unit {0}
-AreAnswered (x ∷ past) = AnswersAsk x.0 x.1 × AreAnswered past
+use Rattle.serve_machine.specs.Completion.{owner_done, access_done}
 
 -- ---- Pop
 
@@ -58,22 +46,10 @@ IsAct p to x = x.0 ≡ Member to.0 p.tag.floor (Act to.1)
 
 -- ---- Complete
 
--- the completion rule: the bytes for what the owner or the member answers, where so many are writable. To a Judge and to an Act no other answers come
+-- the completion rule: the bytes for what the owner or the member answers, where so many are writable, and those of the status ENOMEM, 12, where there was no memory. To a Judge and to an Act no other answers come
 abbrev pub completed_with : Told → ℕ → List ℕ
-completed_with (FromOwner placed) writable = elim placed.reply [
-  | Listed bits ↦ done_of 0 0 (bytes_of 8 bits) writable
-  | Used ↦ done_of 0 0 [] writable
-  | Refused status qualifier floor ↦ done_of status qualifier [] writable
-  | _ ↦ []
-]
-completed_with (FromMember placed) writable = elim placed.reply [
-  | Data bytes ↦ done_of 0 0 bytes writable
-  | Written ↦ done_of 0 0 [] writable
-  | Info ↦ done_of 0 0 info writable
-  | RefusedIt why ↦ done_of 22 2 [] writable
-  | Gone floor ↦ done_of 22 4 [] writable
-  | _ ↦ []
-]
+completed_with (FromOwner placed) writable = owner_done writable placed.reply
+completed_with (FromMember placed) writable = access_done writable placed.reply
 completed_with NoMemory writable = done_of 12 0 [] writable
 completed_with (FromQueue placed) writable = []
 

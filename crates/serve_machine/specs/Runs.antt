@@ -1,9 +1,9 @@
 -- What the machine of a service asks, as lists with the latest ask first. Of this project.
 use Rattle.std.specs.Prelude.{◌≡◌, ℕ, List, [], ◌∷◌, None, Some, IsSome}
+use Rattle.group_calls.specs.Asks.{Exchange, AreAnswered}
 use Rattle.serve_machine.specs.declared.stage.Stage.{Stage}
 use Rattle.serve_machine.specs.declared.stage.Stage.TheVariants.{Popping}
 use Rattle.serve_machine.specs.Service.{next_ask, after}
-use Rattle.serve_machine.specs.Grammar.{Exchange, AreAnswered}
 
 -- the stage of a machine that was fed these answers
 abbrev pub stage_after : List Exchange → Stage

@@ -1,6 +1,7 @@
 //! What a service asks, as a grammar.
 ghost use Rattle.std.specs.Prelude.{ℕ, List, ◌↔◌};
-ghost use Rattle.serve_machine.specs.Grammar.{Exchange, IsAnsweredService, BeginsService};
+ghost use Rattle.group_calls.specs.Asks.{Exchange};
+ghost use Rattle.serve_machine.specs.Grammar.{IsAnsweredService, BeginsService};
 ghost use Rattle.serve_machine.specs.Runs.{IsWholeRun, IsOpenRun};
 
 /// What `Server` asks until nothing is left is a service by the grammar, and what it has asked before is the beginning of

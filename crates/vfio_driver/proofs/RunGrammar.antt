@@ -16,7 +16,7 @@ use Rattle.group_calls.specs.declared.queue.RingReply.TheVariants.{Seq, Full, Cl
 use Rattle.group_calls.specs.declared.member.MemberCall.TheVariants.{Notify}
 use Rattle.group_calls.specs.declared.member.MemberReply.{MemberReply}
 use Rattle.group_calls.specs.declared.member.MemberReply.TheVariants.{Gone}
-use Rattle.group_calls.specs.Asks.{AnswersAsk}
+use Rattle.group_calls.specs.Asks.{AnswersAsk, Exchange, AreAnswered}
 use Rattle.group_calls.specs.Queue.{RingEntry, Posted, posted, outstanding, is_closed, closing_floor, is_taken, completion, command, post_answer, take_completed, take_posted, take_answer}
 use Rattle.io_bar.specs.declared.access.Route.{Route}
 use Rattle.io_bar.specs.declared.access.Route.TheVariants.{Command, Doorbell, Local}
@@ -26,7 +26,7 @@ use Rattle.vfio_driver.specs.declared.access.Open.TheVariants.{Nothing, Ringing,
 use Rattle.vfio_driver.specs.declared.access.Known.{Known}
 use Rattle.vfio_driver.specs.declared.access.Turned.{Turned}
 use Rattle.vfio_driver.specs.Access.{is_read, opened_by, opened, next_ask, ended, lost, ringing, posting, completed, waiting, taking, turned}
-use Rattle.vfio_driver.specs.Grammar.{Exchange, AreAnswered, IsPost, IsPosted, IsNotPosted, IsTake, IsTaken, IsNotTaken, AreWaits, IsAccess, asks_nothing, is_rung, is_not_posted, is_taken_back, IsAnsweredAccess, BeginsAccess}
+use Rattle.vfio_driver.specs.Grammar.{IsPost, IsPosted, IsNotPosted, IsTake, IsTaken, IsNotTaken, AreWaits, IsAccess, asks_nothing, is_rung, is_not_posted, is_taken_back, IsAnsweredAccess, BeginsAccess}
 use Rattle.vfio_driver.specs.Runs.{turned_after, ask_after, AreAsked, IsWholeRun, IsOpenRun}
 
 some_same : {A : Type 0} (x y : A) → Some x ≡ Some y → x ≡ y

@@ -2,26 +2,16 @@
 use Rattle.std.specs.Prelude.{◌≡◌, ◌⊎◌, ℕ, ◌+◌, true, false, List, [], ◌∷◌, ◌++◌}
 use Rattle.admin_wire.specs.Writing.{legacy_bytes, result_length}
 use Rattle.admin_wire.specs.declared.command.LegacyCmd.{LegacyCmd}
-use Rattle.group_calls.specs.declared.ask.Ask.{Ask}
 use Rattle.group_calls.specs.declared.ask.Ask.TheVariants.{Queue, Member}
 use Rattle.group_calls.specs.declared.ask.Told.{Told}
 use Rattle.group_calls.specs.declared.ask.Told.TheVariants.{Queue as FromQueue, NoMemory}
 use Rattle.group_calls.specs.declared.queue.RingCall.TheVariants.{Post, Take}
 use Rattle.group_calls.specs.declared.queue.RingReply.TheVariants.{Seq, Full, Closed, Ready, NotYet, Lost, Stale}
 use Rattle.group_calls.specs.declared.member.MemberCall.TheVariants.{Notify}
-use Rattle.group_calls.specs.Asks.{AnswersAsk}
+use Rattle.group_calls.specs.Asks.{Exchange, AreAnswered}
 use Rattle.io_bar.specs.declared.access.Route.{Route}
 use Rattle.io_bar.specs.declared.access.Route.TheVariants.{Command, Doorbell, Local}
 use Rattle.vfio_driver.specs.declared.access.Known.{Known}
-
--- an ask and its answer
-abbrev pub Exchange : Type 0
-Exchange = Ask × Told
-
--- each ask of a list has an answer that fits it
-abbrev pub AreAnswered : List Exchange → Type 0
-AreAnswered [] = Unit {0}
-AreAnswered (x ∷ past) = AnswersAsk x.0 x.1 × AreAnswered past
 
 -- ---- Post
 

@@ -1,11 +1,11 @@
 -- What the machine of an access asks, as lists with the latest ask first. Of this project.
 use Rattle.std.specs.Prelude.{◌≡◌, ℕ, List, [], ◌∷◌, Option, None, Some, IsSome}
 use Rattle.group_calls.specs.declared.ask.Ask.{Ask}
+use Rattle.group_calls.specs.Asks.{Exchange, AreAnswered}
 use Rattle.io_bar.specs.declared.access.Route.{Route}
 use Rattle.vfio_driver.specs.declared.access.Known.{Known}
 use Rattle.vfio_driver.specs.declared.access.Turned.{Turned}
 use Rattle.vfio_driver.specs.Access.{opened, next_ask, turned}
-use Rattle.vfio_driver.specs.Grammar.{Exchange, AreAnswered}
 
 -- how far a machine is that was fed these answers
 abbrev pub turned_after : ℕ → Known → ℕ → Route → List Exchange → Turned

@@ -1,9 +1,9 @@
 //! Bring-up after an answer.
 ghost use Rattle.std.specs.Prelude.{◌≡◌, ◌<◌, ℕ, slice_index};
 ghost use Rattle.byte_fields.specs.Places.{le64};
-ghost use Rattle.vfio_driver.specs.Bring.{after_post, after_take, after_completion};
+ghost use Rattle.vfio_driver.specs.Bring.{after_post, after_take, after_completion, after_good};
 
-use admin_wire::read_done;
+use admin_wire::{DoneParts, read_done};
 use board_text::Piece;
 use byteorder::{ByteOrder, LittleEndian};
 use group_calls::{RingReply, Told};
@@ -68,68 +68,68 @@ fn first_byte(bytes: &Piece) -> u8
     if bytes.is_empty() { 0 } else { bytes[0] }
 }
 
-// After a completion.
-fn after_completion(step: Step, bytes: &Piece, floor: u64) -> Way
-    ensures { result ≡ after_completion step bytes.now floor }
+// The group, or the member, can be used.
+fn ready(floor: u64) -> Way
+    ensures { result ≡ Way.Over (Brought.Ready floor) }
 {
-    let done = read_done(bytes);
-    let status = done.status;
-    let qualifier = done.qualifier;
-    if status != 0 {
-        return Way::Over {
-            brought: Brought::Unfit {
-                status,
-                qualifier,
-                bits: 0,
-            },
-        };
+    Way::Over {
+        brought: Brought::Ready { floor },
     }
+}
+
+// It can't be used, with this status, qualifier and list of opcodes.
+fn unfit(status: u16, qualifier: u16, bits: u64) -> Way
+    ensures { result ≡ Way.Over (Brought.Unfit status qualifier bits) }
+{
+    Way::Over {
+        brought: Brought::Unfit {
+            status,
+            qualifier,
+            bits,
+        },
+    }
+}
+
+// The command never came to a completion.
+fn never_completed(status: u16) -> Way
+    ensures { result ≡ Way.Over (Brought.Unfit status 0 0) }
+{
+    unfit(status, 0, 0)
+}
+
+// After a completion with status 0.
+fn after_good(step: Step, done: &DoneParts, floor: u64) -> Way
+    ensures { result ≡ after_good step done.now floor }
+{
     match step {
         Step::Query => {
             let bits = first_word(&done.payload);
             if bits % 128 == 127 {
                 Way::Posting { step: Step::Use }
             } else {
-                Way::Over {
-                    brought: Brought::Unfit {
-                        status,
-                        qualifier,
-                        bits,
-                    },
-                }
+                unfit(done.status, done.qualifier, bits)
             }
         }
-        Step::Use => Way::Over {
-            brought: Brought::Ready { floor },
-        },
+        Step::Use => ready(floor),
         Step::Info => {
             if first_byte(&done.payload) == 2 {
-                Way::Over {
-                    brought: Brought::Ready { floor },
-                }
+                ready(floor)
             } else {
-                Way::Over {
-                    brought: Brought::Unfit {
-                        status,
-                        qualifier,
-                        bits: 0,
-                    },
-                }
+                unfit(done.status, done.qualifier, 0)
             }
         }
     }
 }
 
-// The command never came to a completion.
-fn unfit(status: u16) -> Way
-    ensures { result ≡ Way.Over (Brought.Unfit status 0 0) }
+// After a completion.
+fn after_completion(step: Step, bytes: &Piece, floor: u64) -> Way
+    ensures { result ≡ after_completion step bytes.now floor }
 {
-    Way::Over {
-        brought: Brought::Unfit {
-            status,
-            qualifier: 0,
-            bits: 0,
-        },
+    let done = read_done(bytes);
+    if done.status == 0 {
+        after_good(step, &done, floor)
+    } else {
+        unfit(done.status, done.qualifier, 0)
     }
 }
 
@@ -140,10 +140,10 @@ pub(crate) fn after_post(step: Step, told: &Told) -> Way
     match told {
         Told::Queue(placed) => match &placed.reply {
             RingReply::Seq(seq) => Way::Taking { step, seq: *seq },
-            RingReply::Closed { floor: _ } => unfit(22),
+            RingReply::Closed { floor: _ } => never_completed(22),
             _ => Way::Posting { step },
         },
-        _ => unfit(12),
+        _ => never_completed(12),
     }
 }
 
@@ -154,7 +154,7 @@ pub(crate) fn after_take(step: Step, seq: u64, told: &Told) -> Way
     match told {
         Told::Queue(placed) => match &placed.reply {
             RingReply::Ready { bytes, floor } => after_completion(step, bytes, *floor),
-            RingReply::Lost { floor: _ } => unfit(22),
+            RingReply::Lost { floor: _ } => never_completed(22),
             _ => Way::Taking { step, seq },
         },
         _ => Way::Taking { step, seq },

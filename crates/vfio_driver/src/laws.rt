@@ -1,8 +1,9 @@
 //! What an access asks, as a grammar.
 ghost use Rattle.std.specs.Prelude.{ℕ, List, ◌↔◌};
+ghost use Rattle.group_calls.specs.Asks.{Exchange};
 ghost use Rattle.io_bar.specs.declared.access.Route.{Route};
 ghost use Rattle.vfio_driver.specs.declared.access.Known.{Known};
-ghost use Rattle.vfio_driver.specs.Grammar.{Exchange, IsAnsweredAccess, BeginsAccess};
+ghost use Rattle.vfio_driver.specs.Grammar.{IsAnsweredAccess, BeginsAccess};
 ghost use Rattle.vfio_driver.specs.Runs.{IsWholeRun, IsOpenRun};
 
 /// What `Driver` asks until an access is answered is that access by the grammar, and what it has asked before is the
