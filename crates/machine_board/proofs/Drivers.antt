@@ -40,6 +40,10 @@ none_is None false e = absurd (cc)
 none_is (Some x) true e = absurd (cc)
 none_is (Some x) false e = refl
 
+pub unanswered : {A : Type 0} (o : Option A) → is_some o ≡ false → o ≡ None
+unanswered None e = refl
+unanswered (Some x) e = absurd (cc)
+
 -- ---- an ask of the driver is one that the cells take
 
 pub driver_here : (guest : ℕ) (known : Known) (stage : Open) (ask : Ask) → guest ≡ 1 → GoesHere stage → Some ask ≡ next_ask guest known stage → IsHere ask

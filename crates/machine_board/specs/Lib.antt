@@ -1,3 +1,5 @@
 pub mod Ways
 pub mod Cells
 pub mod Guest
+pub mod HostLine
+pub mod BringUp

@@ -1,14 +1,16 @@
 //! A guest's accesses, ask by ask and whole.
 ghost use Rattle.std.specs.Prelude.{◌≡◌, true, false, is_none, IsSome};
 ghost use Rattle.io_bar.specs.Route.{count_of, is_port_width};
+ghost use Rattle.vfio_driver.specs.Access.{is_started};
 ghost use Rattle.machine_board.specs.Ways.{asks};
-ghost use Rattle.machine_board.specs.Guest.{is_not_yet, IsFollowed, IsOneAsk};
+ghost use Rattle.machine_board.specs.Guest.{is_not_yet, IsOneAsk, AreAsksMade, way_of, IsBegun, IsTried, is_full, IsAccessed};
 
 use crate::cells::{Cells, QUEUE};
 use crate::guest::{GUEST, Guest};
-use crate::service::serve;
+use crate::service::{follow, serve};
 use group_calls::{RingReply, Told};
 use io_bar::Access;
+use vfio_driver::laws::the_machine_asks_what_the_grammar_has;
 use vfio_driver::{Answer, Started};
 
 /// After so many asks, or so many services, nothing more is tried: of a queue that is full or slow, each service makes one
@@ -48,13 +50,11 @@ fn is_not_yet(told: &Told) -> bool
     }
 }
 
-// A service, where one has to come.
-fn follow(cells: &mut Cells, waits: bool)
-    ensures { IsFollowed waits cells.old cells.new }
+// The queue was full, so that a service has to come before the access is tried again.
+fn is_full(answer: &Option<Answer>) -> bool
+    ensures { result ≡ is_full answer.now }
 {
-    if waits {
-        serve(cells, GUEST);
-    }
+    matches!(answer, Some(Answer::RefusedFull { .. }))
 }
 
 impl Guest {
@@ -62,7 +62,9 @@ impl Guest {
     pub(crate) fn begin(&mut self, access: &Access) -> Started
         requires unopened { self.old.busy ≡ false }
         requires width { is_port_width (count_of access.now) ≡ true }
-        ensures { self.new.busy ≡ asks result }
+        ensures busy { self.new.busy ≡ asks result }
+        ensures started { result ≡ is_started self.old.driver.known (way_of self.old.driver access.now) }
+        ensures begun { IsBegun access.now self.old.driver self.new.driver }
     {
         let started = self.driver.start(again(access), QUEUE);
         self.busy = is_asking(started);
@@ -80,14 +82,15 @@ impl Guest {
         let waits = is_not_yet(&told);
         let answer = self.driver.feed(told);
         self.busy = answer.is_none();
-        follow(cells, waits);
+        follow(cells, GUEST, waits);
         answer
     }
 
     /// The asks of the open access until it is answered, or nothing where it isn't for long.
     pub(crate) fn finish(&mut self, cells: &mut Cells) -> Option<Answer>
         requires { self.old.busy ≡ true }
-        ensures { self.new.busy ≡ is_none result }
+        ensures busy { self.new.busy ≡ is_none result }
+        ensures asked { AreAsksMade cells.old cells.new self.old.driver self.new.driver result }
     {
         'asks: for _ in 0..TRY_LIMIT {
             let answer = self.ask(cells);
@@ -98,23 +101,35 @@ impl Guest {
         None
     }
 
+    /// One try of a whole access: what it asks is the access by the grammar, or its beginning where it isn't answered for
+    /// long.
+    fn attempt(&mut self, cells: &mut Cells, access: &Access) -> Option<Answer>
+        requires unopened { self.old.busy ≡ false }
+        requires width { is_port_width (count_of access.now) ≡ true }
+        ensures busy { self.new.busy ≡ is_none result }
+        ensures tried { IsTried access.now cells.old cells.new self.old.driver self.new.driver result }
+    {
+        the_machine_asks_what_the_grammar_has();
+        match self.begin(access) {
+            Started::Local => Some(Answer::Ones),
+            Started::Asks => self.finish(cells),
+        }
+    }
+
     /// A whole access, which is tried anew after a service where the queue is full. Nothing where it isn't answered for
     /// long.
     pub(crate) fn access(&mut self, cells: &mut Cells, access: &Access) -> Option<Answer>
         requires unopened { self.old.busy ≡ false }
         requires width { is_port_width (count_of access.now) ≡ true }
-        ensures { IsSome result → self.new.busy ≡ false }
+        ensures busy { IsSome result → self.new.busy ≡ false }
+        ensures accessed { IsAccessed access.now cells.old cells.new self.old.driver self.new.driver result }
     {
         'tries: for _ in 0..TRY_LIMIT {
-            match self.begin(access) {
-                Started::Local => return Some(Answer::Ones),
-                Started::Asks => {}
+            let answer = self.attempt(cells, access);
+            if !is_full(&answer) {
+                return answer;
             }
-            let answer = self.finish(cells);
-            match &answer {
-                Some(Answer::RefusedFull { .. }) => serve(cells, GUEST),
-                _ => return answer,
-            }
+            serve(cells, GUEST);
         }
         None
     }

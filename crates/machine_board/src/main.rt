@@ -3,9 +3,10 @@
 //! performs so many accesses, so that their cost can be measured.
 //!
 //! It stands on the cells (`owner_core`, `admin_ring`, `member_core`) and on the machines that ask them (`vfio_driver`,
-//! `serve_machine`, `host_machine`). Its main clauses are those of `Cells::answer`, an ask is one call on one cell, of
-//! `serve`, what a service asks is a service by the grammar, and of `Guest::ask`, an ask of the driver is followed by a
-//! service just where its command isn't completed.
+//! `serve_machine`, `host_machine`). Its main clauses are those of `Cells::answer`, an ask is one call on one cell; of
+//! `Guest::ask`, an ask of the driver is followed by a service just where its command isn't completed; and of `serve`,
+//! `perform` and `Guest::access`, what a service, a line of the host and each try of an access ask is what the grammar of
+//! the machine has, each ask on the cells as the earlier ones left them.
 #![tactic(auto)]
 
 mod accesses;

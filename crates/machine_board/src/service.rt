@@ -1,7 +1,7 @@
 //! A whole service of the queue.
 ghost use Rattle.std.specs.Prelude.{◌<◌};
 ghost use Rattle.history.specs.Limits.{actor_limit};
-ghost use Rattle.machine_board.specs.Guest.{IsServed};
+ghost use Rattle.machine_board.specs.Guest.{IsServed, IsFollowed};
 
 use crate::cells::{Cells, QUEUE};
 use serve_machine::Server;
@@ -17,5 +17,15 @@ pub(crate) fn serve(cells: &mut Cells, who: u32)
     'service: while let Some(ask) = server.next() {
         let told = cells.answer(who, ask);
         server.feed(told);
+    }
+}
+
+/// A service by an actor, where one has to come.
+pub(crate) fn follow(cells: &mut Cells, who: u32, waits: bool)
+    requires { who < actor_limit }
+    ensures { IsFollowed who waits cells.old cells.new }
+{
+    if waits {
+        serve(cells, who);
     }
 }

@@ -2,6 +2,7 @@ use Rattle.std.proofs.Common.{◌≡◌, ◌<◌, Some, sym, ◌∙◌, subst}
 use Rattle.host_machine.specs.Machine.{next_ask}
 use Rattle.machine_board.specs.Ways.{IsWayHere, line_left}
 use Rattle.machine_board.proofs.Lines.{host_turns}
+use Rattle.machine_board.proofs.HostRuns.{longer}
 use Rattle.machine_board.proofs.host_line.perform.Goals as goal
 
 pub line-preserved : goal.line-preserved
@@ -14,6 +15,8 @@ line-preserved c =
       members = c.feed.ensures.members ∙ here.members;
       queues = c.feed.ensures.queues ∙ here.queues;
       here = subst (λ g. IsWayHere g.way) (sym c.feed.ensures.going) turns.0;
+      runs = longer c.args.cells.now c.line.cells c.answer-told.new.self c.args.line host.members host.queues host.going c.feed.new.self.going c.in-Some.ask c.answer-told.result
+          here.members here.queues here.runs asked c.answer-told.ensures.answers c.answer-told.ensures.asked c.feed.ensures.going;
     }
 
 pub line-smaller : goal.line-smaller

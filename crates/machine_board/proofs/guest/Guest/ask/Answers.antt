@@ -27,8 +27,10 @@ returns-clause-asked c = record {
   between = c.answer-told.new.self;
   next = sym c.next-ask.ensures;
   asked = c.answer-told.ensures.asked;
+  answers = c.answer-told.ensures.answers;
+  driver = (c.feed-answer.ensures.guest, c.feed-answer.ensures.bar, c.feed-answer.ensures.io, c.feed-answer.ensures.msix);
   stage = c.feed-answer.ensures.stage;
   known = c.feed-answer.ensures.known;
   answered = c.feed-answer.ensures.answer;
-  followed = subst (λ b. IsFollowed b c.answer-told.new.self c.follow.new.cells) c.is_not_yet-waits.ensures c.follow.ensures;
+  followed = subst (λ b. IsFollowed 1 b c.answer-told.new.self c.follow.new.cells) c.is_not_yet-waits.ensures c.follow.ensures;
 }

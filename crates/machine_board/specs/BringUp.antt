@@ -1,0 +1,67 @@
+-- What bring-up of the group does. Of this project; the commands are those of VIRTIO 1.3, 2.12.1 (group administration commands).
+use Rattle.std.specs.Prelude.{◌≡◌, ℕ, zero, suc, Bool, true, false, Option, None, Some}
+use Rattle.group_calls.specs.declared.ask.Ask.{Ask}
+use Rattle.group_calls.specs.declared.ask.Ask.TheVariants.{Owner}
+use Rattle.group_calls.specs.declared.ask.Told.{Told}
+use Rattle.group_calls.specs.declared.ask.Told.TheVariants.{Queue as FromQueue}
+use Rattle.group_calls.specs.declared.owner.OwnerCall.TheVariants.{SetVfs}
+use Rattle.group_calls.specs.declared.queue.RingReply.TheVariants.{Full, NotYet}
+use Rattle.vfio_driver.specs.declared.bring_turn.Brought.{Brought}
+use Rattle.vfio_driver.specs.declared.bring_turn.Brought.TheVariants.{Ready}
+use Rattle.vfio_driver.specs.declared.bring_turn.Step.TheVariants.{Query, Info}
+use Rattle.vfio_driver.specs.declared.bring_turn.Way.{Way}
+use Rattle.vfio_driver.specs.declared.bring_turn.Way.TheVariants.{Posting}
+use Rattle.vfio_driver.specs.Bring.{next_ask, turned, brought_by}
+use Rattle.machine_board.specs.declared.cells.Cells.{Cells}
+use Rattle.machine_board.specs.Cells.{IsAsked}
+use Rattle.machine_board.specs.Guest.{IsFollowed}
+
+-- the queue is full, or the command isn't completed
+abbrev pub is_waiting : Told → Bool
+is_waiting (FromQueue placed) = elim placed.reply [ Full ↦ true | NotYet ↦ true | _ ↦ false ]
+is_waiting _ = false
+
+-- the next ask of bring-up is one call on its cell by the board, actor 0; bring-up goes on by the answer; where it has to wait a service follows
+pub record IsOneStep (member : ℕ) (old new : Cells) (before later : Way) : Type 0 where
+  pub ask : Ask
+  pub told : Told
+  pub between : Cells
+  pub next : next_ask member before ≡ Some ask
+  pub asked : IsAsked old between 0 ask told
+  pub turns : later ≡ turned before told
+  pub followed : IsFollowed 0 (is_waiting told) between new
+
+-- so, any number of times
+pub data AreStepsMade (member : ℕ) : Cells → Cells → Way → Way → Type 0 where
+  no_step : (cells : Cells) (way : Way) → AreStepsMade member cells cells way way
+  one_more_step : (old between new : Cells) (before at later : Way)
+      → AreStepsMade member old between before at → IsOneStep member between new at later → AreStepsMade member old new before later
+
+-- it begins with the list commands where the member is 0, else with its notify information
+abbrev pub first_way : ℕ → Way
+first_way zero = Posting Query
+first_way (suc member) = Posting Info
+
+-- such steps, and what they come to: nothing where bring-up isn't over for long
+abbrev pub IsBrought : ℕ → Cells → Cells → Option Brought → Type 0
+IsBrought member old new brought = (way : Way) × AreStepsMade member old new (first_way member) way × (brought ≡ brought_by way)
+
+-- the list commands went well
+abbrev pub is_ready : Option Brought → Bool
+is_ready (Some brought) = elim brought [ Ready floor ↦ true | _ ↦ false ]
+is_ready None = false
+
+-- the notify information of member 1 comes next, or nothing does
+abbrev pub IsInformed : Bool → Option Brought → Cells → Cells → Option Brought → Type 0
+IsInformed true lists old new brought = IsBrought 1 old new brought
+IsInformed false lists old new brought = (new ≡ old) × (brought ≡ lists)
+
+-- one virtual function, the list commands, and where these went well the notify information
+pub record IsBroughtUp (old new : Cells) (brought : Option Brought) : Type 0 where
+  pub told : Told
+  pub counted : Cells
+  pub listed : Cells
+  pub lists : Option Brought
+  pub count_is_set : IsAsked old counted 0 (Owner (SetVfs 1)) told
+  pub lists_are_brought : IsBrought 0 counted listed lists
+  pub informed : IsInformed (is_ready lists) lists listed new brought
