@@ -151,3 +151,7 @@ opens_where false guest floor route queue = opens_by guest route queue
 
 pub opens : (guest : ℕ) (known : Known) (route : Route) (queue : ℕ) → is_open (opened guest known route queue) ≡ asks (is_started known route)
 opens guest known route queue = opens_where known.gone guest known.floor route queue
+
+pub never_none : {A : Type 0} (o : Option A) (n m : ℕ) → is_some o ≡ true → o ≡ None → n ≡ m
+never_none None n m some is = absurd (cc)
+never_none (Some x) n m some is = absurd (cc)

@@ -1,5 +1,5 @@
 -- A whole access of the guest on these cells.
-use Rattle.std.proofs.Common.{◌≡◌, ℕ, true, false, List, [], ◌∷◌, Option, None, Some, refl, sym, ap, ◌∙◌, rules}
+use Rattle.std.proofs.Common.{◌≡◌, ℕ, ◌+◌, length, arith, true, false, List, [], ◌∷◌, Option, None, Some, refl, sym, ap, ◌∙◌, rules}
 use Rattle.std.specs.Prelude.{is_none, IsSome}
 use Rattle.group_calls.specs.declared.ask.Told.{Told}
 use Rattle.group_calls.specs.Asks.{Exchange, AreAnswered}
@@ -16,13 +16,14 @@ use Rattle.vfio_driver.specs.Grammar.{IsAnsweredAccess, BeginsAccess}
 use Rattle.vfio_driver.specs.Runs.{AreAsked, IsWholeRun, IsOpenRun}
 use Rattle.machine_board.specs.declared.cells.Cells.{Cells}
 use Rattle.machine_board.specs.Ways.{asks}
-use Rattle.machine_board.specs.Guest.{IsAsBefore, IsOneAsk, AreAsksMade, none_is_made, one_more_is_made, way_of, IsBegun, AreAskedAndServed, access_after, answer_by, IsByGrammar, IsTried}
+use Rattle.machine_board.specs.Guest.{IsAsBefore, IsOneAsk, AreAsksMade, IsFinished, none_is_made, one_more_is_made, way_of, IsBegun, AreAskedAndServed, access_after, answer_by, IsByGrammar, IsTried}
 use Rattle.machine_board.proofs.Drivers.{opens}
 
 -- ---- the asks so far
 
-record Goes (access : Access) (old now : Cells) (start at : Driver) (answer : Option Answer) : Type 0 where
+record Goes (access : Access) (count : ℕ) (old now : Cells) (start at : Driver) (answer : Option Answer) : Type 0 where
   asked : List Exchange
+  counted : length asked ≡ count
   answered : AreAnswered asked
   by_machine : AreAsked start.guest start.known 0 (way_of start access) asked
   stage : at.stage ≡ (access_after start access asked).stage
@@ -37,12 +38,13 @@ same_ask guest guest_too known known_too stage stage_too one two three = ap (λ 
 same_turn : (known known_too : Known) (stage stage_too : Open) (told : Told) → known ≡ known_too → stage ≡ stage_too → turned known stage told ≡ turned known_too stage_too told
 same_turn known known_too stage stage_too told one two = ap (λ k. turned k stage told) one ∙ ap (λ s. turned known_too s told) two
 
-one_more : (access : Access) (old between now : Cells) (start at later : Driver) (answer : Option Answer) → Goes access old between start at None → IsOneAsk between now at later answer → Goes access old now start later answer
-one_more access old between now start at later answer goes one =
+one_more : (access : Access) (count : ℕ) (old between now : Cells) (start at later : Driver) (answer : Option Answer) → Goes access count old between start at None → IsOneAsk between now at later answer → Goes access (count + 1) old now start later answer
+one_more access count old between now start at later answer goes one =
     let after = access_after start access goes.asked in
     let turn = same_turn at.known after.known at.stage after.stage one.told goes.known goes.stage in
     record {
       asked = (one.ask, one.told) ∷ goes.asked;
+      counted = let before : length goes.asked ≡ count = goes.counted in omega arith;
       answered = (one.answers, goes.answered);
       by_machine = (sym (same_ask at.guest start.guest at.known after.known at.stage after.stage goes.driver.0 goes.known goes.stage) ∙ one.next, goes.by_machine);
       stage = one.stage ∙ ap (λ t. t.stage) turn;
@@ -52,10 +54,10 @@ one_more access old between now start at later answer goes one =
       driver = (one.driver.0 ∙ goes.driver.0, one.driver.1 ∙ goes.driver.1, one.driver.2 ∙ goes.driver.2, one.driver.3 ∙ goes.driver.3);
     }
 
-goes_on : (access : Access) (start : Driver) (old new : Cells) (before later : Driver) (answer : Option Answer) → AreAsksMade old new before later answer → IsBegun access start before → Goes access old new start later answer
-goes_on access start _ _ _ _ _ (none_is_made cells driver) begun = record { asked = []; answered = tt; by_machine = tt; stage = begun.stage; known = begun.known; answer_is = refl; in_turn = refl; driver = begun.driver }
-goes_on access start _ _ _ _ _ (one_more_is_made old between new before at later answer made one) begun =
-    one_more access old between new start at later answer (goes_on access start old between before at None made begun) one
+goes_on : (access : Access) (start : Driver) (count : ℕ) (old new : Cells) (before later : Driver) (answer : Option Answer) → AreAsksMade count old new before later answer → IsBegun access start before → Goes access count old new start later answer
+goes_on access start _ _ _ _ _ _ (none_is_made cells driver) begun = record { asked = []; counted = refl; answered = tt; by_machine = tt; stage = begun.stage; known = begun.known; answer_is = refl; in_turn = refl; driver = begun.driver }
+goes_on access start _ _ _ _ _ _ (one_more_is_made count old between new before at later answer made one) begun =
+    one_more access count old between new start at later answer (goes_on access start count old between before at None made begun) one
 
 -- ---- an access asks more while it is open
 
@@ -79,24 +81,26 @@ IsWholeLaw driver access = (xs : List Exchange) → IsWholeRun driver.guest driv
 abbrev pub IsBegunLaw : Driver → Access → Type 0
 IsBegunLaw driver access = (xs : List Exchange) → IsOpenRun driver.guest driver.known 0 (way_of driver access) xs → BeginsAccess driver.guest driver.known 0 (way_of driver access) xs
 
-by_grammar : (access : Access) (old now : Cells) (start at : Driver) (answer made : Option Answer) → is_open at.stage ≡ is_none answer → IsWholeLaw start access → IsBegunLaw start access
-    → (goes : Goes access old now start at made) → IsByGrammar start access answer goes.asked
-by_grammar access old now start at (Some answer) made is whole begun goes =
+by_grammar : (access : Access) (count : ℕ) (old now : Cells) (start at : Driver) (answer made : Option Answer) → is_open at.stage ≡ is_none answer → IsWholeLaw start access → IsBegunLaw start access
+    → (goes : Goes access count old now start at made) → IsByGrammar start access answer goes.asked
+by_grammar access count old now start at (Some answer) made is whole begun goes =
     let after = access_after start access goes.asked in
     whole goes.asked (goes.answered, goes.by_machine, closed_asks start.guest after.known after.stage (ap is_open (sym goes.stage) ∙ is))
-by_grammar access old now start at None made is whole begun goes =
+by_grammar access count old now start at None made is whole begun goes =
     let after = access_after start access goes.asked in
     begun goes.asked (goes.answered, goes.by_machine, open_asks start.guest after.known after.stage (ap is_open (sym goes.stage) ∙ is))
 
-pub asked_tried : (access : Access) (old new : Cells) (before begun later : Driver) (answer : Option Answer) → IsBegun access before begun → Asks ≡ is_started before.known (way_of before access) → AreAsksMade old new begun later answer
+pub asked_tried : (access : Access) (old new : Cells) (before begun later : Driver) (answer : Option Answer) → IsBegun access before begun → Asks ≡ is_started before.known (way_of before access) → IsFinished old new begun later answer
     → is_open later.stage ≡ is_none answer → IsWholeLaw before access → IsBegunLaw before access → IsTried access old new before later answer
-asked_tried access old new before begun later answer begins starts made opens_where whole begun_law =
-    let goes = goes_on access before old new begun later answer made begins in
+asked_tried access old new before begun later answer begins starts finished opens_where whole begun_law =
+    let count = finished.0 in
+    let goes = goes_on access before count old new begun later answer finished.1 begins in
     record {
       asked = goes.asked;
-      by_grammar = by_grammar access old new before later answer answer opens_where whole begun_law goes;
+      by_grammar = by_grammar access count old new before later answer answer opens_where whole begun_law goes;
       in_turn = goes.in_turn;
       answered = goes.answer_is ∙ ap (λ s. answer_by s (access_after before access goes.asked)) starts;
+      most = λ none. goes.counted ∙ finished.2 none;
       known = goes.known;
       driver = goes.driver;
     }
@@ -110,6 +114,7 @@ local_tried access cells before later begins starts whole =
       by_grammar = whole [] (tt, tt, closed_asks before.guest before.known (opened before.guest before.known way 0) closed);
       in_turn = refl;
       answered = ap (λ s. answer_by s (access_after before access [])) starts;
+      most = λ none. absurd (cc);
       known = begins.known;
       driver = begins.driver;
     }

@@ -1,5 +1,5 @@
 -- What bring-up of the group does. Of this project; the commands are those of VIRTIO 1.3, 2.12.1 (group administration commands).
-use Rattle.std.specs.Prelude.{◌≡◌, ℕ, zero, suc, Bool, true, false, Option, None, Some}
+use Rattle.std.specs.Prelude.{◌≡◌, ℕ, ◌+◌, zero, suc, Bool, true, false, Option, None, Some}
 use Rattle.group_calls.specs.declared.ask.Ask.{Ask}
 use Rattle.group_calls.specs.declared.ask.Ask.TheVariants.{Owner}
 use Rattle.group_calls.specs.declared.ask.Told.{Told}
@@ -14,7 +14,7 @@ use Rattle.vfio_driver.specs.declared.bring_turn.Way.TheVariants.{Posting}
 use Rattle.vfio_driver.specs.Bring.{next_ask, turned, brought_by}
 use Rattle.machine_board.specs.declared.cells.Cells.{Cells}
 use Rattle.machine_board.specs.Cells.{IsAsked}
-use Rattle.machine_board.specs.Guest.{IsFollowed}
+use Rattle.machine_board.specs.Guest.{IsFollowed, try_limit}
 
 -- the queue is full, or the command isn't completed
 abbrev pub is_waiting : Told → Bool
@@ -31,20 +31,20 @@ pub record IsOneStep (member : ℕ) (old new : Cells) (before later : Way) : Typ
   pub turns : later ≡ turned before told
   pub followed : IsFollowed 0 (is_waiting told) between new
 
--- so, any number of times
-pub data AreStepsMade (member : ℕ) : Cells → Cells → Way → Way → Type 0 where
-  no_step : (cells : Cells) (way : Way) → AreStepsMade member cells cells way way
-  one_more_step : (old between new : Cells) (before at later : Way)
-      → AreStepsMade member old between before at → IsOneStep member between new at later → AreStepsMade member old new before later
+-- so many of them
+pub data AreStepsMade (member : ℕ) : ℕ → Cells → Cells → Way → Way → Type 0 where
+  no_step : (cells : Cells) (way : Way) → AreStepsMade member 0 cells cells way way
+  one_more_step : (steps : ℕ) (old between new : Cells) (before at later : Way)
+      → AreStepsMade member steps old between before at → IsOneStep member between new at later → AreStepsMade member (steps + 1) old new before later
 
 -- it begins with the list commands where the member is 0, else with its notify information
 abbrev pub first_way : ℕ → Way
 first_way zero = Posting Query
 first_way (suc member) = Posting Info
 
--- such steps, and what they come to: nothing where bring-up isn't over for long
+-- such steps, and what they come to: nothing only after as many as are tried
 abbrev pub IsBrought : ℕ → Cells → Cells → Option Brought → Type 0
-IsBrought member old new brought = (way : Way) × AreStepsMade member old new (first_way member) way × (brought ≡ brought_by way)
+IsBrought member old new brought = (steps : ℕ) × (way : Way) × AreStepsMade member steps old new (first_way member) way × (brought ≡ brought_by way) × (brought ≡ None → steps ≡ try_limit)
 
 -- the list commands went well
 abbrev pub is_ready : Option Brought → Bool

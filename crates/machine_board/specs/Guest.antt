@@ -1,5 +1,5 @@
 -- What an access of the guest does, ask by ask and whole. Of this project.
-use Rattle.std.specs.Prelude.{◌≡◌, ℕ, Bool, true, false, List, [], ◌∷◌, Option, None, Some}
+use Rattle.std.specs.Prelude.{◌≡◌, ℕ, ◌+◌, Bool, true, false, List, [], ◌∷◌, length, Option, None, Some}
 use Rattle.group_calls.specs.declared.ask.Ask.{Ask}
 use Rattle.group_calls.specs.declared.ask.Told.{Told}
 use Rattle.group_calls.specs.declared.ask.Told.TheVariants.{Queue as FromQueue}
@@ -20,6 +20,10 @@ use Rattle.vfio_driver.specs.Grammar.{IsAnsweredAccess, BeginsAccess}
 use Rattle.vfio_driver.specs.Runs.{turned_after}
 use Rattle.machine_board.specs.declared.cells.Cells.{Cells}
 use Rattle.machine_board.specs.Cells.{IsAsked, AreAskedInTurn}
+
+-- after so many asks, steps or tries in vain nothing more is tried
+abbrev pub try_limit : ℕ
+try_limit = 300
 
 -- one whole service by an actor
 abbrev pub IsServed : ℕ → Cells → Cells → Type 0
@@ -53,11 +57,15 @@ pub record IsOneAsk (old new : Cells) (before later : Driver) (answer : Option A
   pub answered : answer ≡ (turned before.known before.stage told).answer
   pub followed : IsFollowed 1 (is_not_yet told) between new
 
--- no ask; or asks that gave no answer, and then one that gave this answer
-pub data AreAsksMade : Cells → Cells → Driver → Driver → Option Answer → Type 0 where
-  none_is_made : (cells : Cells) (driver : Driver) → AreAsksMade cells cells driver driver None
-  one_more_is_made : (old between new : Cells) (before at later : Driver) (answer : Option Answer)
-      → AreAsksMade old between before at None → IsOneAsk between new at later answer → AreAsksMade old new before later answer
+-- so many asks: none; or some that gave no answer, and then one that gave this answer
+pub data AreAsksMade : ℕ → Cells → Cells → Driver → Driver → Option Answer → Type 0 where
+  none_is_made : (cells : Cells) (driver : Driver) → AreAsksMade 0 cells cells driver driver None
+  one_more_is_made : (asks : ℕ) (old between new : Cells) (before at later : Driver) (answer : Option Answer)
+      → AreAsksMade asks old between before at None → IsOneAsk between new at later answer → AreAsksMade (asks + 1) old new before later answer
+
+-- asks until one gave an answer, or as many as are tried that gave none
+abbrev pub IsFinished : Cells → Cells → Driver → Driver → Option Answer → Type 0
+IsFinished old new before later answer = (asks : ℕ) × AreAsksMade asks old new before later answer × (answer ≡ None → asks ≡ try_limit)
 
 -- ---- a whole access
 
@@ -94,12 +102,13 @@ abbrev pub IsByGrammar : Driver → Access → Option Answer → List Exchange �
 IsByGrammar driver access (Some answer) xs = IsAnsweredAccess driver.guest driver.known 0 (way_of driver access) xs
 IsByGrammar driver access None xs = BeginsAccess driver.guest driver.known 0 (way_of driver access) xs
 
--- one try of an access, with the answer and what is known of the member after it
+-- one try of an access, with the answer and what is known of the member after it; there is none only after as many asks as are tried
 pub record IsTried (access : Access) (old new : Cells) (before later : Driver) (answer : Option Answer) : Type 0 where
   pub asked : List Exchange
   pub by_grammar : IsByGrammar before access answer asked
   pub in_turn : AreAskedAndServed old new asked
   pub answered : answer ≡ answer_after before access asked
+  pub most : answer ≡ None → length asked ≡ try_limit
   pub known : later.known ≡ (access_after before access asked).known
   pub driver : IsAsBefore before later
 
@@ -108,14 +117,14 @@ abbrev pub is_full : Option Answer → Bool
 is_full (Some answer) = elim answer [ RefusedFull queue at ↦ true | _ ↦ false ]
 is_full None = false
 
--- tries of an access that each found the queue full, and a service after each
-pub data AreRefused (access : Access) : Cells → Cells → Driver → Driver → Type 0 where
-  none_is_refused : (cells : Cells) (driver : Driver) → AreRefused access cells cells driver driver
-  one_more_is_refused : (old between tried new : Cells) (before at later : Driver) (answer : Option Answer)
-      → AreRefused access old between before at → IsTried access between tried at later answer → is_full answer ≡ true → IsServed 1 tried new → AreRefused access old new before later
+-- so many tries of an access that each found the queue full, and a service after each
+pub data AreRefused (access : Access) : ℕ → Cells → Cells → Driver → Driver → Type 0 where
+  none_is_refused : (cells : Cells) (driver : Driver) → AreRefused access 0 cells cells driver driver
+  one_more_is_refused : (tries : ℕ) (old between tried new : Cells) (before at later : Driver) (answer : Option Answer)
+      → AreRefused access tries old between before at → IsTried access between tried at later answer → is_full answer ≡ true → IsServed 1 tried new → AreRefused access (tries + 1) old new before later
 
--- and then a try that didn't, or none where the queue was full for long
+-- and then a try that didn't, or none where that came to as many as are tried
 pub data IsAccessed (access : Access) : Cells → Cells → Driver → Driver → Option Answer → Type 0 where
-  is_ended : (old between new : Cells) (before at later : Driver) (answer : Option Answer)
-      → AreRefused access old between before at → IsTried access between new at later answer → is_full answer ≡ false → IsAccessed access old new before later answer
-  is_given_up : (old new : Cells) (before later : Driver) → AreRefused access old new before later → IsAccessed access old new before later None
+  is_ended : (tries : ℕ) (old between new : Cells) (before at later : Driver) (answer : Option Answer)
+      → AreRefused access tries old between before at → IsTried access between new at later answer → is_full answer ≡ false → IsAccessed access old new before later answer
+  is_given_up : (old new : Cells) (before later : Driver) → AreRefused access try_limit old new before later → IsAccessed access old new before later None

@@ -3,7 +3,7 @@ ghost use Rattle.std.specs.Prelude.{◌≡◌, true, false, is_none, IsSome};
 ghost use Rattle.io_bar.specs.Route.{count_of, is_port_width};
 ghost use Rattle.vfio_driver.specs.Access.{is_started};
 ghost use Rattle.machine_board.specs.Ways.{asks};
-ghost use Rattle.machine_board.specs.Guest.{is_not_yet, IsOneAsk, AreAsksMade, way_of, IsBegun, IsTried, is_full, IsAccessed};
+ghost use Rattle.machine_board.specs.Guest.{is_not_yet, IsOneAsk, IsFinished, way_of, IsBegun, IsTried, is_full, IsAccessed};
 
 use crate::cells::{Cells, QUEUE};
 use crate::guest::{GUEST, Guest};
@@ -90,7 +90,7 @@ impl Guest {
     pub(crate) fn finish(&mut self, cells: &mut Cells) -> Option<Answer>
         requires { self.old.busy ≡ true }
         ensures busy { self.new.busy ≡ is_none result }
-        ensures asked { AreAsksMade cells.old cells.new self.old.driver self.new.driver result }
+        ensures asked { IsFinished cells.old cells.new self.old.driver self.new.driver result }
     {
         'asks: for _ in 0..TRY_LIMIT {
             let answer = self.ask(cells);

@@ -1,5 +1,5 @@
-use Rattle.std.proofs.Common.{◌≡◌, ℕ, zero, suc, ◌<◌, Bool, true, Option, None, Some, refl, sym, ap, ◌∙◌, subst, arith}
-use Rattle.std.specs.Prelude.{is_none}
+use Rattle.std.proofs.Common.{◌≡◌, ℕ, ◌+◌, zero, suc, ◌<◌, Bool, true, Option, None, Some, refl, sym, ap, ◌∙◌, subst, arith}
+use Rattle.std.specs.Prelude.{is_none, is_some}
 use Rattle.group_calls.specs.declared.ask.Ask.{Ask}
 use Rattle.group_calls.specs.declared.ask.Told.{Told}
 use Rattle.vfio_driver.specs.declared.bring_turn.Step.TheVariants.{Query, Info}
@@ -9,8 +9,8 @@ use Rattle.vfio_driver.specs.Bring.{next_ask, turned, brought_by}
 use Rattle.machine_board.specs.declared.cells.Cells.{Cells}
 use Rattle.machine_board.specs.Cells.{IsAsked}
 use Rattle.machine_board.specs.BringUp.{is_waiting, first_way, AreStepsMade, no_step, one_more_step}
-use Rattle.machine_board.specs.Guest.{IsFollowed}
-use Rattle.machine_board.proofs.Drivers.{unanswered}
+use Rattle.machine_board.specs.Guest.{IsFollowed, try_limit}
+use Rattle.machine_board.proofs.Drivers.{unanswered, never_none}
 use Rattle.machine_board.proofs.bring_up.bring.Goals as goal
 
 first_is : (member : ℕ) (way : Way) → (member ≡ 0 → way ≡ Posting Query) → (0 < member → way ≡ Posting Info) → way ≡ first_way member
@@ -25,9 +25,9 @@ none_is_nothing : {A : Type 0} (o : Option A) → is_none o ≡ true → None �
 none_is_nothing None e = refl
 none_is_nothing (Some x) e = absurd (cc)
 
-one_more : (member own : ℕ) (old from to new : Cells) (before later : Way) (ask : Ask) (told : Told) (waits : Bool) → own ≡ member → AreStepsMade member old from (first_way member) before → Some ask ≡ next_ask own before
-    → IsAsked from to 0 ask told → later ≡ turned before told → waits ≡ is_waiting told → IsFollowed 0 waits to new → AreStepsMade member old new (first_way member) later
-one_more member own old from to new before later ask told waits same steps next asked turns is followed = one_more_step old from new (first_way member) before later steps (record {
+one_more : (member own count : ℕ) (old from to new : Cells) (before later : Way) (ask : Ask) (told : Told) (waits : Bool) → own ≡ member → AreStepsMade member count old from (first_way member) before → Some ask ≡ next_ask own before
+    → IsAsked from to 0 ask told → later ≡ turned before told → waits ≡ is_waiting told → IsFollowed 0 waits to new → AreStepsMade member (count + 1) old new (first_way member) later
+one_more member own count old from to new before later ask told waits same steps next asked turns is followed = one_more_step count old from new (first_way member) before later steps (record {
   ask = ask;
   told = told;
   between = to;
@@ -45,7 +45,7 @@ asks-init c =
     record {
       unfinished = ap (λ way. is_none (brought_by way)) first ∙ first_unfinished member;
       member = new.member;
-      steps = subst (λ way. AreStepsMade member c.args.cells.now c.args.cells.now way c.new-commands.result.way) first (no_step c.args.cells.now c.new-commands.result.way);
+      steps = subst (λ way. AreStepsMade member 0 c.args.cells.now c.args.cells.now way c.new-commands.result.way) first (no_step c.args.cells.now c.new-commands.result.way);
     }
 
 pub asks-preserved : goal.asks-preserved
@@ -57,7 +57,7 @@ asks-preserved c =
     record {
       unfinished = ap (λ way. is_none (brought_by way)) feed.way ∙ ap is_none (sym feed.brought ∙ none);
       member = feed.member ∙ here.member;
-      steps = one_more c.args.member before.member c.args.cells.now c.asks.cells c.answer-told.new.self c.follow.new.cells before.way c.feed-brought.new.self.way c.next-ask.result c.answer-told.result c.is_waiting-waits.result
+      steps = one_more c.args.member before.member c.asks.counter c.args.cells.now c.asks.cells c.answer-told.new.self c.follow.new.cells before.way c.feed-brought.new.self.way c.next-ask.result c.answer-told.result c.is_waiting-waits.result
           here.member here.steps c.next-ask.ensures c.answer-told.ensures.asked feed.way c.is_waiting-waits.ensures c.follow.ensures;
     }
 
@@ -67,9 +67,10 @@ returns-then-is_some c =
     let later = c.feed-brought.new.self in
     let here = c.asks.invariant in
     let feed = c.feed-brought.ensures in
-    let steps = one_more c.args.member before.member c.args.cells.now c.asks.cells c.answer-told.new.self c.follow.new.cells before.way later.way c.next-ask.result c.answer-told.result c.is_waiting-waits.result
+    let steps = one_more c.args.member before.member c.asks.counter c.args.cells.now c.asks.cells c.answer-told.new.self c.follow.new.cells before.way later.way c.next-ask.result c.answer-told.result c.is_waiting-waits.result
     here.member here.steps c.next-ask.ensures c.answer-told.ensures.asked feed.way c.is_waiting-waits.ensures c.follow.ensures in
-    (later.way, steps, feed.brought ∙ ap brought_by (sym feed.way))
+    let some : is_some c.feed-brought.result ≡ true = cc in
+    (c.asks.counter + 1, later.way, steps, feed.brought ∙ ap brought_by (sym feed.way), never_none c.feed-brought.result (c.asks.counter + 1) try_limit some)
 
 pub returns : goal.returns
-returns c = (c.asks.commands.way, c.asks.invariant.steps, none_is_nothing (brought_by c.asks.commands.way) c.asks.invariant.unfinished)
+returns c = (c.asks.counter, c.asks.commands.way, c.asks.invariant.steps, none_is_nothing (brought_by c.asks.commands.way) c.asks.invariant.unfinished, λ _. omega arith)

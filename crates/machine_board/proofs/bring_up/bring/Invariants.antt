@@ -9,5 +9,5 @@ abbrev pub invariant-asks : goal.invariant-asks
 invariant-asks l = record {
   unfinished : is_none (brought_by l.commands.way) ≡ true;
   member : l.commands.member ≡ l.fn.member;
-  steps : AreStepsMade l.fn.member l.fn.cells l.cells (first_way l.fn.member) l.commands.way;
+  steps : AreStepsMade l.fn.member l.counter l.fn.cells l.cells (first_way l.fn.member) l.commands.way;
 }

@@ -6,5 +6,5 @@ use Rattle.machine_board.proofs.guest.Guest.access.Given as goal
 abbrev pub invariant-tries : goal.invariant-tries
 invariant-tries l = record {
   closed : l.self.busy ≡ false;
-  refused : AreRefused l.fn.access l.fn.cells l.cells l.fn.self.driver l.self.driver;
+  refused : AreRefused l.fn.access l.counter l.fn.cells l.cells l.fn.self.driver l.self.driver;
 }

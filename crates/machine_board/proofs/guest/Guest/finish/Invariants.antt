@@ -6,5 +6,5 @@ use Rattle.machine_board.proofs.guest.Guest.finish.Given as goal
 abbrev pub invariant-asks : goal.invariant-asks
 invariant-asks l = record {
   opened : l.self.busy ≡ true;
-  asked : AreAsksMade l.fn.cells l.cells l.fn.self.driver l.self.driver None;
+  asked : AreAsksMade l.counter l.fn.cells l.cells l.fn.self.driver l.self.driver None;
 }
