@@ -7,15 +7,11 @@ ghost use Rattle.machine_board.specs.Guest.{is_not_yet, IsOneAsk, IsFinished, wa
 
 use crate::cells::{Cells, QUEUE};
 use crate::guest::{GUEST, Guest};
-use crate::service::{follow, serve};
+use crate::service::{TRY_LIMIT, follow, serve};
 use group_calls::{RingReply, Told};
 use io_bar::Access;
 use vfio_driver::laws::the_machine_asks_what_the_grammar_has;
 use vfio_driver::{Answer, Started};
-
-/// After so many asks, or so many services, nothing more is tried: of a queue that is full or slow, each service makes one
-/// command ready, and a queue has at most 128.
-const TRY_LIMIT: u32 = 300;
 
 // The same access once more.
 fn again(access: &Access) -> Access

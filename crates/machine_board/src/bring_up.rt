@@ -3,15 +3,12 @@ ghost use Rattle.std.specs.Prelude.{◌≡◌};
 ghost use Rattle.machine_board.specs.BringUp.{is_waiting, is_ready, IsBrought, IsBroughtUp};
 
 use crate::cells::{Cells, MEMBER};
-use crate::service::follow;
+use crate::service::{TRY_LIMIT, follow};
 use group_calls::{Ask, OwnerCall, RingReply, Told};
 use vfio_driver::{BringUp, Brought};
 
 /// The actor's number of the board.
 pub(crate) const BOARD: u32 = 0;
-
-/// After so many asks nothing more is tried: each command of bring-up takes three where nothing else is posted.
-const TRY_LIMIT: u32 = 300;
 
 // A service has to come first.
 fn is_waiting(told: &Told) -> bool
