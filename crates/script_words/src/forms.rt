@@ -1,7 +1,8 @@
 //! Which form a line has.
 ghost use Rattle.std.specs.Prelude.{◌≡◌};
-ghost use Rattle.script_words.specs.Shape.{tail_of, switch_of, in_of, out_of, guest_form, worker_form, host_form, block_of, setup_form, is_actor_word, are_pairs as are_pairs_of, go_form, named_form, form_of, shape_of};
-ghost use Rattle.script_words.specs.Words.{one_of, words_of, head_of};
+ghost use Rattle.script_words.specs.declared.shape.Act.TheVariants.{Peek, Cfg};
+ghost use Rattle.script_words.specs.Shape.{form, tail_of, switch_of, in_of, out_of, guest_form, worker_form, host_form, block_of, setup_form, is_actor_word, are_pairs as are_pairs_of, go_form, named_form, form_of, shape_of};
+ghost use Rattle.script_words.specs.Words.{one_of, two_of, words_of, head_of};
 
 use crate::shape::{Act, Member, Shape, Tail};
 use crate::words::{Head, Word, Words, are_plain};
@@ -80,6 +81,28 @@ fn read_out<'a>(guest: Word<'a>, words: Words<'a>) -> Option<Act<'a>>
     })
 }
 
+fn read_peek<'a>(guest: Word<'a>, words: Words<'a>) -> Option<Act<'a>>
+    ensures { result ≡ form (two_of words.entry) (λ w. Peek guest.entry w.0 w.1) }
+{
+    let (addr, length) = words.two()?;
+    Some(Act::Peek {
+        guest,
+        addr,
+        length,
+    })
+}
+
+fn read_cfg<'a>(guest: Word<'a>, words: Words<'a>) -> Option<Act<'a>>
+    ensures { result ≡ form (two_of words.entry) (λ w. Cfg guest.entry w.0 w.1) }
+{
+    let (offset, length) = words.two()?;
+    Some(Act::Cfg {
+        guest,
+        offset,
+        length,
+    })
+}
+
 // What follows a guest.
 fn guest_line<'a>(guest: Word<'a>, words: Words<'a>) -> Option<Act<'a>>
     ensures { result ≡ guest_form guest.entry words.entry }
@@ -93,12 +116,7 @@ fn guest_line<'a>(guest: Word<'a>, words: Words<'a>) -> Option<Act<'a>>
         let (addr, bytes) = rest.two()?;
         Some(Act::Mem { guest, addr, bytes })
     } else if name.is(b"peek") {
-        let (addr, length) = rest.two()?;
-        Some(Act::Peek {
-            guest,
-            addr,
-            length,
-        })
+        read_peek(guest, rest)
     } else if name.is(b"msix") {
         let on = read_switch(rest)?;
         Some(Act::Msix { guest, on })
@@ -106,12 +124,7 @@ fn guest_line<'a>(guest: Word<'a>, words: Words<'a>) -> Option<Act<'a>>
         let on = read_switch(rest)?;
         Some(Act::Io { guest, on })
     } else if name.is(b"cfg") {
-        let (offset, length) = rest.two()?;
-        Some(Act::Cfg {
-            guest,
-            offset,
-            length,
-        })
+        read_cfg(guest, rest)
     } else if name.is(b"irqs") {
         if rest.is_ended() {
             Some(Act::Irqs { guest })

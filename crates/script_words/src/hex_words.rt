@@ -13,6 +13,7 @@ use board_text::{Bytes, HexFault, Piece, read_hex};
 use std::alloc::Global;
 
 // The bytes that a word spells.
+#[inline(always)]
 fn read_bytes(alloc: Global, word: &Word) -> Result<Bytes, Fault>
     ensures value { Gives result (any_bytes (hex_bytes word.now)) }
     ensures each { IfOk result IsBytes }
