@@ -2,5 +2,6 @@ pub mod Limits
 pub mod Code
 pub mod Words
 pub mod Output
+pub mod Putting
 pub mod Reading
 pub mod Outcome

@@ -10,7 +10,7 @@ use crate::output::fault_text;
 use crate::reading::{ReadFailure, read_text};
 use crate::status::Status;
 use crate::words::command_named;
-use crate::writing::put_all;
+use crate::writing::{put_all, put_output};
 use board_io::{Gate, PutAnswer, Sink, Source};
 use script_words::ScriptFault;
 use std::alloc::Global;
@@ -53,7 +53,7 @@ pub fn board_once<R: Source, W: Sink>(
         Err(ReadFailure::NoMemory) => return Status::NoMemory,
     };
     match perform(alloc, command, text.as_slice()) {
-        Ok(output) => match put_all(sink, output.as_slice()) {
+        Ok(output) => match put_output(sink, &output) {
             PutAnswer::Put => Status::Done,
             PutAnswer::Failed => Status::WriteFault,
         },

@@ -1,5 +1,5 @@
 //! A line of the host as a machine.
-ghost use Rattle.std.specs.Prelude.{◌≡◌, ◌+◌, ◌≤◌, false, length, IfOk, IsOk, IsSomeAnd};
+ghost use Rattle.std.specs.Prelude.{◌≡◌, ◌+◌, ◌≤◌, false, length, IfOk, IsOk, IsSomeAnd, is_none};
 ghost use Rattle.group_calls.specs.Limits.{group_limit};
 ghost use Rattle.group_calls.specs.Asks.{AnswersAsk};
 ghost use Rattle.host_machine.specs.Machine.{first, next_ask, turned};
@@ -84,6 +84,23 @@ impl Host {
         ensures queues { self.new.queues ≡ self.old.queues }
         ensures going { self.new.going ≡ turned self.old.members self.old.queues self.old.going told }
     {
-        self.going = turned(self.members, self.queues, &self.going, &told);
+        self.hear(&told);
+    }
+
+    /// Goes on as `feed` does, after an answer that is only lent.
+    pub fn hear(&mut self, told: &Told)
+        requires { IsSomeAnd (next_ask self.old.going) (λ ask. AnswersAsk ask told.now) }
+        ensures members { self.new.members ≡ self.old.members }
+        ensures queues { self.new.queues ≡ self.old.queues }
+        ensures going { self.new.going ≡ turned self.old.members self.old.queues self.old.going told.now }
+    {
+        self.going = turned(self.members, self.queues, &self.going, told);
+    }
+
+    /// Nothing is left to ask.
+    pub fn has_ended(&self) -> bool
+        ensures { result ≡ is_none (next_ask self.now.going) }
+    {
+        matches!(self.going.way, Way::Ended)
     }
 }

@@ -1,5 +1,5 @@
 //! The service as a machine.
-ghost use Rattle.std.specs.Prelude.{◌≡◌, ◌≤◌, IsSomeAnd, IfSome};
+ghost use Rattle.std.specs.Prelude.{◌≡◌, ◌≤◌, IsSomeAnd, IfSome, is_none};
 ghost use Rattle.group_calls.specs.Asks.{AnswersAsk};
 ghost use Rattle.group_calls.specs.Limits.{writable_limit};
 ghost use Rattle.serve_machine.specs.Service.{next_ask, after, is_serving};
@@ -27,6 +27,17 @@ impl Server {
         Server {
             queue,
             stage: Stage::Popping,
+        }
+    }
+
+    /// A service of the queue of this number, which has ended.
+    pub fn ended(queue: u32) -> Server
+        ensures queue { result.queue ≡ queue }
+        ensures stage { result.stage ≡ Stage.Ended }
+    {
+        Server {
+            queue,
+            stage: Stage::Ended,
         }
     }
 
@@ -71,12 +82,35 @@ impl Server {
         ensures queue { self.new.queue ≡ self.old.queue }
         ensures stage { self.new.stage ≡ after self.old.stage told }
     {
+        self.hear(&told);
+    }
+
+    /// Goes on as `feed` does, after an answer that is only lent.
+    pub fn hear(&mut self, told: &Told)
+        requires { IsSomeAnd (next_ask self.old.queue self.old.stage) (λ ask. AnswersAsk ask told.now) }
+        ensures queue { self.new.queue ≡ self.old.queue }
+        ensures stage { self.new.stage ≡ after self.old.stage told.now }
+    {
         self.stage = match &self.stage {
-            Stage::Popping => after_pop(&told),
-            Stage::Judging { command, bytes: _ } => after_judge(*command, &told),
-            Stage::Acting { command, .. } => after_act(*command, &told),
+            Stage::Popping => after_pop(told),
+            Stage::Judging { command, bytes: _ } => after_judge(*command, told),
+            Stage::Acting { command, .. } => after_act(*command, told),
             _ => Stage::Ended,
         };
+    }
+
+    /// The number of the queue.
+    pub fn queue(&self) -> u32
+        ensures { result ≡ self.now.queue }
+    {
+        self.queue
+    }
+
+    /// Nothing is left to ask.
+    pub fn has_ended(&self) -> bool
+        ensures { result ≡ is_none (next_ask self.now.queue self.now.stage) }
+    {
+        matches!(self.stage, Stage::Ended)
     }
 
     /// A command is fetched and its completion isn't answered yet.

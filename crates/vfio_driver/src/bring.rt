@@ -83,9 +83,19 @@ impl BringUp {
         ensures way { self.new.way ≡ turned self.old.way told }
         ensures brought { result ≡ brought_by (turned self.old.way told) }
     {
+        self.hear(&told)
+    }
+
+    /// Goes on as `feed` does, after an answer that is only lent.
+    pub fn hear(&mut self, told: &Told) -> Option<Brought>
+        requires { IsSomeAnd (next_ask self.old.member self.old.way) (λ ask. AnswersAsk ask told.now) }
+        ensures member { self.new.member ≡ self.old.member }
+        ensures way { self.new.way ≡ turned self.old.way told.now }
+        ensures brought { result ≡ brought_by (turned self.old.way told.now) }
+    {
         self.way = match self.way {
-            Way::Posting { step } => after_post(step, &told),
-            Way::Taking { step, seq } => after_take(step, seq, &told),
+            Way::Posting { step } => after_post(step, told),
+            Way::Taking { step, seq } => after_take(step, seq, told),
             Way::Over { brought } => Way::Over { brought },
         };
         match self.way {

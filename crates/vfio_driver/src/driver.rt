@@ -99,6 +99,13 @@ impl Driver {
         }
     }
 
+    /// An access is open.
+    pub fn is_open(&self) -> bool
+        ensures { result ≡ is_open self.now.stage }
+    {
+        !matches!(self.stage, Open::Nothing)
+    }
+
     /// The next ask of the open access.
     pub fn next(&self) -> Ask
         requires { is_open self.now.stage ≡ true }
@@ -149,15 +156,29 @@ impl Driver {
         ensures known { self.new.known ≡ (turned self.old.known self.old.stage told).known }
         ensures answer { result ≡ (turned self.old.known self.old.stage told).answer }
     {
+        self.hear(&told)
+    }
+
+    /// Goes on as `feed` does, after an answer that is only lent.
+    pub fn hear(&mut self, told: &Told) -> Option<Answer>
+        requires { IsSomeAnd (next_ask self.old.guest self.old.known self.old.stage) (λ ask. AnswersAsk ask told.now) }
+        ensures guest { self.new.guest ≡ self.old.guest }
+        ensures bar { self.new.bar ≡ self.old.bar }
+        ensures io { self.new.io ≡ self.old.io }
+        ensures msix { self.new.msix ≡ self.old.msix }
+        ensures stage { self.new.stage ≡ (turned self.old.known self.old.stage told.now).stage }
+        ensures known { self.new.known ≡ (turned self.old.known self.old.stage told.now).known }
+        ensures answer { result ≡ (turned self.old.known self.old.stage told.now).answer }
+    {
         let turned = match &self.stage {
-            Open::Ringing { queue: _ } => ringing(self.known, &told),
+            Open::Ringing { queue: _ } => ringing(self.known, told),
             Open::Posting {
                 queue,
                 bytes: _,
                 writable: _,
                 reads,
-            } => posting(self.known, *queue, *reads, &told),
-            Open::Taking { queue, seq, reads } => taking(self.known, *queue, *seq, *reads, &told),
+            } => posting(self.known, *queue, *reads, told),
+            Open::Taking { queue, seq, reads } => taking(self.known, *queue, *seq, *reads, told),
             Open::Nothing => Turned {
                 stage: Open::Nothing,
                 known: self.known,
