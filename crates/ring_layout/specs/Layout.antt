@@ -1,5 +1,5 @@
 -- Where a legacy split virtqueue lies: VIRTIO 1.3, 2.7.2, where the alignment is 4,096 bytes.
-use Rattle.std.specs.Prelude.{◌≡◌, ℕ, ◌+◌, ◌-◌, ◌*◌, ◌/◌, ◌==◌, nat_lt, Bool, true, ◌||◌, Option, None, Some, if◌then◌else◌}
+use Rattle.std.specs.Prelude.{◌≡◌, ℕ, ◌+◌, ◌-◌, ◌*◌, ◌/◌, ◌==◌, nat_lt, true, ◌||◌, Option, None, Some, if◌then◌else◌}
 use Rattle.byte_fields.specs.Sizes.{is_queue_size, page_size}
 use Rattle.ring_layout.specs.declared.layout.Layout.{Layout}
 
