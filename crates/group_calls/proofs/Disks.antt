@@ -12,7 +12,7 @@ use Rattle.byte_fields.proofs.Overwriting.{get_or-overwrite_before, get_or-overw
 use Rattle.ring_layout.specs.declared.layout.Layout.{Layout}
 use Rattle.ring_layout.specs.declared.descriptor.Descriptor.{Descriptor}
 use Rattle.ring_layout.specs.Layout.{legacy_layout}
-use Rattle.ring_layout.specs.Chain.{Found, nothing, bad_index, bad_chain, chain, found, buffers, readable_bytes, writable_part, total_length}
+use Rattle.ring_layout.specs.Chain.{Found, nothing, bad_index, bad_chain, chain, found, readable_bytes, writable_part, total_length}
 use Rattle.blk_engine.specs.Block.{capacity, are_sectors, status, status_of, is_malformed, disk_after_request}
 use Rattle.net_engine.specs.Frames.{with_header}
 use Rattle.legacy_regs.specs.declared.device.Kind.{Kind}
@@ -28,7 +28,7 @@ use Rattle.group_calls.specs.MemberEntries.{MemberEntry}
 use Rattle.group_calls.specs.MemberQueues.{receives}
 use Rattle.group_calls.specs.Facts.{Facts, facts}
 use Rattle.group_calls.specs.Steps.{Outcome, stops, serves, service, block_step, receive_step, transmit_step, chain_step, found_step, ring_step, are_none, outcome}
-use Rattle.group_calls.specs.Disk.{SectorWrite, write_of_request, found_buffers, next_buffers, write_of_chain, write_of_service, byte_of_write, disk_bytes}
+use Rattle.group_calls.specs.Disk.{SectorWrite, write_of_request, found_chain, next_chain, write_of_chain, write_of_service, byte_of_write, disk_bytes}
 use Rattle.group_calls.specs.Storage.{Stored, memory_then, if_serves, write_then, with_write, memory_from, disk_writes, disk_from}
 use Rattle.group_calls.specs.Replay.{disk_left, disk_then, memory_replayed, disk_replayed}
 
@@ -186,14 +186,14 @@ module _ (made : MemberMade) (memory disk : List ℕ) (f : Facts) (q : ℕ) wher
   chain_leaves (Block sectors ro) l ds = block_leaves ro l ds
   chain_leaves (Net mac) l ds = net_leaves l ds (q == 0)
 
-  found_leaves : (l : Layout) (there : Found) → Leaves (write_of_chain made.kind memory disk (found_buffers memory l there)) disk (found_step made memory disk f q l there)
+  found_leaves : (l : Layout) (there : Found) → Leaves (write_of_chain made.kind memory disk (found_chain there)) disk (found_step made memory disk f q l there)
   unfolding found_step
   found_leaves l nothing = tt
   found_leaves l bad_index = tt
   found_leaves l bad_chain = tt
-  found_leaves l (chain c) = chain_leaves made.kind l (buffers memory l c)
+  found_leaves l (chain ds) = chain_leaves made.kind l ds
 
-  ring_leaves : (o : Option Layout) → Leaves (write_of_chain made.kind memory disk (next_buffers memory f q o)) disk (ring_step made memory disk f q o)
+  ring_leaves : (o : Option Layout) → Leaves (write_of_chain made.kind memory disk (next_chain memory f q o)) disk (ring_step made memory disk f q o)
   unfolding ring_step
   ring_leaves None = tt
   ring_leaves (Some l) = found_leaves l (found memory l (f.position q))
@@ -214,7 +214,7 @@ module _ (made : MemberMade) (memory disk : List ℕ) (f : Facts) (q : ℕ) wher
 
   service_lies : Lies (write_of_service made.kind memory disk f q) disk
   unfolding write_of_service
-  service_lies = chain_lies made.kind (next_buffers memory f q ring)
+  service_lies = chain_lies made.kind (next_chain memory f q ring)
 
 -- ---- after one entry more
 

@@ -4,7 +4,7 @@ use Rattle.std.specs.Prelude.{◌==◌, ◌&&◌, not, nat_lt, if◌then◌else�
 use Rattle.ring_layout.specs.declared.layout.Layout.{Layout}
 use Rattle.ring_layout.specs.declared.descriptor.Descriptor.{Descriptor}
 use Rattle.ring_layout.specs.Layout.{legacy_layout}
-use Rattle.ring_layout.specs.Chain.{nothing, bad_index, bad_chain, chain, found, buffers}
+use Rattle.ring_layout.specs.Chain.{nothing, bad_index, bad_chain, chain, found}
 use Rattle.legacy_regs.specs.declared.device.Kind.TheVariants.{Block, Net}
 use Rattle.legacy_regs.specs.Registers.{member_ring_size, queue_count, page_number}
 use Rattle.group_calls.specs.declared.member.MemberMade.{MemberMade}
@@ -46,9 +46,9 @@ module _ (made : MemberMade) (memory disk : List ℕ) (f : Facts) (q : ℕ) wher
   unfolding found_step
   found_step-bad_chain l = refl
 
-  pub found_step-chain : (l : Layout) (c : List ℕ) → found_step made memory disk f q l (chain c) ≡ chain_step made made.kind memory disk f q l (buffers memory l c)
+  pub found_step-chain : (l : Layout) (ds : List Descriptor) → found_step made memory disk f q l (chain ds) ≡ chain_step made made.kind memory disk f q l ds
   unfolding found_step
-  found_step-chain l c = refl
+  found_step-chain l ds = refl
 
   pub chain_step-block : (sectors : ℕ) (read_only : Bool) (l : Layout) (ds : List Descriptor)
       → chain_step made (Block sectors read_only) memory disk f q l ds ≡ block_step made read_only memory disk f q l ds

@@ -5,7 +5,7 @@ use Rattle.byte_fields.specs.Sizes.{sector_size}
 use Rattle.ring_layout.specs.declared.layout.Layout.{Layout}
 use Rattle.ring_layout.specs.declared.descriptor.Descriptor.{Descriptor}
 use Rattle.ring_layout.specs.Layout.{legacy_layout}
-use Rattle.ring_layout.specs.Chain.{Found, nothing, bad_index, bad_chain, chain, found, buffers, readable_bytes, writable_part, total_length}
+use Rattle.ring_layout.specs.Chain.{Found, nothing, bad_index, bad_chain, chain, found, readable_bytes, writable_part, total_length}
 use Rattle.blk_engine.specs.Block.{status_of}
 use Rattle.legacy_regs.specs.declared.device.Kind.{Kind}
 use Rattle.legacy_regs.specs.declared.device.Kind.TheVariants.{Block, Net}
@@ -28,15 +28,15 @@ write_of_request read_only disk request writable =
 
 -- ---- the request of a step
 
--- the buffers of the chain that was found
-abbrev pub found_buffers : List ℕ → Layout → Found → List Descriptor
-found_buffers memory l (chain c) = buffers memory l c
-found_buffers memory l _ = []
+-- the descriptors of the chain that was found
+abbrev pub found_chain : Found → List Descriptor
+found_chain (chain ds) = ds
+found_chain _ = []
 
 -- those of the chain that a queue of this layout has next
-abbrev pub next_buffers : List ℕ → Facts → ℕ → Option Layout → List Descriptor
-next_buffers memory f q None = []
-next_buffers memory f q (Some l) = found_buffers memory l (found memory l (f.position q))
+abbrev pub next_chain : List ℕ → Facts → ℕ → Option Layout → List Descriptor
+next_chain memory f q None = []
+next_chain memory f q (Some l) = found_chain (found memory l (f.position q))
 
 abbrev pub write_of_chain : Kind → List ℕ → List ℕ → List Descriptor → Option SectorWrite
 write_of_chain (Block sectors read_only) memory disk ds = write_of_request read_only disk (readable_bytes memory ds) (total_length (writable_part ds))
@@ -45,7 +45,7 @@ write_of_chain (Net mac) memory disk ds = None
 -- the write that a service of a queue carries out
 unfoldable pub write_of_service : Kind → List ℕ → List ℕ → Facts → ℕ → Option SectorWrite
 write_of_service kind memory disk f q =
-    write_of_chain kind memory disk (next_buffers memory f q (legacy_layout (page_number f.registers q) member_ring_size (length memory)))
+    write_of_chain kind memory disk (next_chain memory f q (legacy_layout (page_number f.registers q) member_ring_size (length memory)))
 
 -- ---- the disk
 
