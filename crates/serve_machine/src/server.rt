@@ -1,12 +1,12 @@
 //! The service as a machine.
-ghost use Rattle.std.specs.Prelude.{◌≡◌, ◌≤◌, IsSomeAnd, IfSome};
+ghost use Rattle.std.specs.Prelude.{◌≡◌, ◌≤◌, IsSomeAnd, IfSome, is_none};
 ghost use Rattle.group_calls.specs.Asks.{AnswersAsk};
 ghost use Rattle.group_calls.specs.Limits.{writable_limit};
 ghost use Rattle.serve_machine.specs.Service.{next_ask, after, is_serving};
-ghost use Rattle.serve_machine.specs.Within.{writable_in, result_in, payload_limit, IsWithinAsk};
+ghost use Rattle.serve_machine.specs.Within.{writable_in, IsWithinAsk};
 
 use crate::stage::Stage;
-use crate::turn::{after_act, after_judge, after_pop};
+use crate::turn::{after_judge, after_pop, completing};
 use group_calls::{Ask, MemberCall, OwnerCall, RingCall, Told};
 
 /// One service of an administration queue: VIRTIO 1.3, 2.13 (administration virtqueues). Of this project.
@@ -15,7 +15,6 @@ pub struct Server {
     queue: u32,
     stage: Stage,
     ghost few_writable: { writable_in stage ≤ writable_limit },
-    ghost result_fits: { result_in stage ≤ payload_limit },
 }
 
 impl Server {
@@ -28,6 +27,24 @@ impl Server {
             queue,
             stage: Stage::Popping,
         }
+    }
+
+    /// A service of the queue of this number, which has ended.
+    pub fn ended(queue: u32) -> Server
+        ensures queue { result.queue ≡ queue }
+        ensures stage { result.stage ≡ Stage.Ended }
+    {
+        Server {
+            queue,
+            stage: Stage::Ended,
+        }
+    }
+
+    /// The number of the queue.
+    pub fn queue(&self) -> u32
+        ensures { result ≡ self.now.queue }
+    {
+        self.queue
     }
 
     /// The next ask, or nothing once the service has ended. Judge is asked with at most 256 writable bytes.
@@ -50,7 +67,7 @@ impl Server {
                 access,
             } => Some(Ask::Member {
                 id: *member,
-                floor: command.floor,
+                floor: command.tag.floor,
                 call: MemberCall::Act(access.copy()),
             }),
             Stage::Completing { seq, bytes, floor } => Some(Ask::Queue {
@@ -71,12 +88,28 @@ impl Server {
         ensures queue { self.new.queue ≡ self.old.queue }
         ensures stage { self.new.stage ≡ after self.old.stage told }
     {
+        self.hear(&told);
+    }
+
+    /// Goes on as `feed` does, after an answer that is only lent.
+    pub fn hear(&mut self, told: &Told)
+        requires { IsSomeAnd (next_ask self.old.queue self.old.stage) (λ ask. AnswersAsk ask told.now) }
+        ensures queue { self.new.queue ≡ self.old.queue }
+        ensures stage { self.new.stage ≡ after self.old.stage told.now }
+    {
         self.stage = match &self.stage {
-            Stage::Popping => after_pop(&told),
-            Stage::Judging { command, bytes: _ } => after_judge(*command, &told),
-            Stage::Acting { command, .. } => after_act(*command, &told),
+            Stage::Popping => after_pop(told),
+            Stage::Judging { command, bytes: _ } => after_judge(*command, told),
+            Stage::Acting { command, .. } => completing(*command, told),
             _ => Stage::Ended,
         };
+    }
+
+    /// Nothing is left to ask.
+    pub fn has_ended(&self) -> bool
+        ensures { result ≡ is_none (next_ask self.now.queue self.now.stage) }
+    {
+        matches!(self.stage, Stage::Ended)
     }
 
     /// A command is fetched and its completion isn't answered yet.
