@@ -1,5 +1,5 @@
 -- Which replies come to a Pop, to a Judge and to an Act; a refusal has the status EINVAL.
-use Rattle.std.proofs.Common.{◌≡◌, refl, ℕ, List, Option, Some, None, sym, subst, if◌then◌else◌}
+use Rattle.std.proofs.Common.{◌≡◌, refl, ℕ, Bool, List, Option, Some, None, sym, subst, if◌then◌else◌}
 use Rattle.std.specs.Prelude.{◌==◌, ◌&&◌, nat_lt, nat_le, not}
 use Rattle.admin_wire.specs.Command.{command_of}
 use Rattle.admin_wire.specs.declared.numbers.TheConstants.{SR_IOV, LEGACY_NOTIFY_INFO}
@@ -25,7 +25,7 @@ use Rattle.group_calls.specs.declared.member.MemberReply.TheVariants.{Data, Writ
 use Rattle.group_calls.specs.declared.member.Why.TheVariants.{Field}
 use Rattle.group_calls.specs.Asks.{AnswersAsk}
 use Rattle.group_calls.specs.Facts.{Facts, facts}
-use Rattle.group_calls.specs.Member.{answer_by, access_answer, is_refused, killed}
+use Rattle.group_calls.specs.Member.{answer_by, access_answer, is_refused, is_memory_call, is_killed, gone_floor}
 use Rattle.group_calls.specs.Storage.{memory_after, disk_after}
 use Rattle.group_calls.specs.Owner.{OwnerEntry, einval, verdict, verdict_on, refused, supported_list, invalid_field, invalid_group, invalid_member, invalid_opcode, vf_count, is_away, is_used}
 use Rattle.group_calls.specs.Queue.{RingEntry, Posted, posted, earliest, fetch, pop_or_fetch, pop_answer, is_closed, is_fetched, in_service}
@@ -115,9 +115,10 @@ access_kind kind r (DevWrite offset bytes) = tt
 access_kind kind r (DevRead offset count) = tt
 access_kind kind r NotifyInfo = tt
 
-act_kind : (made : MemberMade) (end : Option ℕ) (f : Facts) (memory disk : List ℕ) (access : LegacyCmd) → IsActReply (answer_by made end f memory disk (Act access))
-act_kind made None f memory disk access = either IsActReply (is_refused made.kind f.registers.msix access) (RefusedIt Field) (access_answer made.kind f.registers access) tt (access_kind made.kind f.registers access)
-act_kind made (Some floor) f memory disk access = tt
+act_kind : (made : MemberMade) (is_gone : Bool) (floor : ℕ) (f : Facts) (memory disk : List ℕ) (access : LegacyCmd) → IsActReply (answer_by made is_gone floor f memory disk (Act access))
+act_kind made is_gone floor f memory disk access =
+    either IsActReply (is_gone && not (is_memory_call (Act access))) (Gone floor) _ tt (
+    either IsActReply (is_refused made.kind f.registers.msix access) (RefusedIt Field) (access_answer made.kind f.registers access) tt (access_kind made.kind f.registers access))
 
 abbrev pub IsMemberTold : Told → Type 0
 IsMemberTold (FromMember placed) = IsActReply placed.reply
@@ -127,7 +128,7 @@ IsMemberTold _ = ⊥
 pub act_answered : (member floor : ℕ) (access : LegacyCmd) (told : Told) → AnswersAsk (Member member floor (Act access)) told → IsMemberTold told
 act_answered member floor access (FromMember placed) answers =
     let over = answers.2 in
-    subst IsActReply (sym over.reply) (act_kind answers.0 (killed over.history) (facts answers.0 over.history) (memory_after answers.0 over.history) (disk_after answers.0 over.history) access)
+    subst IsActReply (sym over.reply) (act_kind answers.0 (is_killed over.history) (gone_floor over.history) (facts answers.0 over.history) (memory_after answers.0 over.history) (disk_after answers.0 over.history) access)
 act_answered member floor access (FromOwner placed) answers = answers
 act_answered member floor access (FromQueue placed) answers = answers
 act_answered member floor access NoMemory answers = tt
