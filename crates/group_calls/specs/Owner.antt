@@ -51,6 +51,10 @@ names m e = elim e.call [ Gone member floor ↦ member == m | _ ↦ false ]
 abbrev pub is_away : List OwnerEntry → ℕ → Bool
 is_away h m = list_any (names m) h
 
+-- the member exists, and isn't away
+abbrev pub is_there : List OwnerEntry → ℕ → Bool
+is_there h m = nat_lt 0 m && nat_le m (vf_count h) && not (is_away h m)
+
 -- ---- the list in use: VIRTIO 1.3, 2.12.1 (group administration commands)
 
 abbrev pub list_taken : OwnerEntry → Option ℕ
@@ -86,7 +90,7 @@ refused h m qualifier = Refused einval qualifier (refusal_floor h m)
 abbrev pub verdict_on : List OwnerEntry → ℕ → Body → OwnerReply
 verdict_on h m Query = Listed supported_list
 verdict_on h m (Use bits) = if nat_lt supported_list bits then refused h m invalid_field else Used
-verdict_on h m (ToMember command) = if nat_lt 0 m && nat_le m (vf_count h) && not (is_away h m) then Legacy m command else refused h m invalid_member
+verdict_on h m (ToMember command) = if is_there h m then Legacy m command else refused h m invalid_member
 verdict_on h m Unknown = refused h m invalid_opcode
 
 -- on a command: the group comes first, then the opcode

@@ -14,11 +14,12 @@ ghost use Rattle.group_calls.specs.Storage.{Stored, memory_from, disk_from, memo
 ghost use Rattle.group_calls.specs.Replay.{memory_replayed, disk_replayed};
 ghost use Rattle.group_calls.specs.Member.{is_killed, gone_floor, member_answer};
 
+use crate::ask::{Ask, Told};
 use crate::lone::LoneItem;
-use crate::member::{MemberCall, MemberReply};
+use crate::member::{MemberCall, MemberMade, MemberReply};
 use crate::owner::{OwnerCall, OwnerReply};
 use crate::queue::{RingCall, RingReply, WRITABLE_LIMIT};
-use history::Log;
+use history::{Log, Placed};
 
 /// Commands are numbered from 0 in the order in which they were posted.
 pub fn commands_are_numbered()
@@ -52,12 +53,22 @@ pub fn limits()
     ensures { WRITABLE_LIMIT ≡ writable_limit }
 {}
 
-fn crosses<T: Send + Sync>() {}
+fn is_shared<T: Send + Sync>() {}
 
-/// The histories of the three kinds of cells, and a lone device's items, may be sent to threads and shared by them.
+/// What is asked and what is told may be sent to threads and shared by them.
+pub fn asks_cross_threads() {
+    is_shared::<Ask>();
+    is_shared::<Told>();
+    is_shared::<Placed<OwnerReply>>();
+    is_shared::<Placed<RingReply>>();
+    is_shared::<Placed<MemberReply>>();
+    is_shared::<MemberMade>();
+}
+
+/// So may the histories of the three kinds of cells, and a lone device's items.
 pub fn histories_cross_threads() {
-    crosses::<Log<OwnerCall, OwnerReply>>();
-    crosses::<Log<RingCall, RingReply>>();
-    crosses::<Log<MemberCall, MemberReply>>();
-    crosses::<LoneItem>();
+    is_shared::<Log<OwnerCall, OwnerReply>>();
+    is_shared::<Log<RingCall, RingReply>>();
+    is_shared::<Log<MemberCall, MemberReply>>();
+    is_shared::<LoneItem>();
 }

@@ -19,11 +19,11 @@ pub fn what_stood_before_is_legal<S: Serial>()
     ensures { (made : S.Made) (h : List (Entry S.Call S.Reply)) (p : ℕ) → IsLegal (S.answer made) S.is_quiet (S.may_call made) h → IsLegal (S.answer made) S.is_quiet (S.may_call made) (before p h) × IsEarlier (before p h) h }
 {}
 
-fn crosses<T: Send + Sync>() {}
+fn is_shared<T: Send + Sync>() {}
 
 /// What can be sent to threads and shared by them can be so in an entry, in a placed reply and in a log.
 pub fn histories_cross_threads<Call: Send + Sync, Reply: Send + Sync>() {
-    crosses::<Entry<Call, Reply>>();
-    crosses::<Placed<Reply>>();
-    crosses::<Log<Call, Reply>>();
+    is_shared::<Entry<Call, Reply>>();
+    is_shared::<Placed<Reply>>();
+    is_shared::<Log<Call, Reply>>();
 }

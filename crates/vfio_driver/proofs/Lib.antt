@@ -1,1 +1,7 @@
-pub mod RunGrammar
+mod Replies
+mod Stages
+mod RunGrammar
+mod Causes
+mod HeardLaws
+mod BringRunGrammar
+mod BroughtLaws

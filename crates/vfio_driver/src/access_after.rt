@@ -1,27 +1,27 @@
 //! The access after an answer.
 ghost use Rattle.std.specs.Prelude.{◌≡◌, Some};
-ghost use Rattle.vfio_driver.specs.Access.{ringing, posting, taking, ready, lost, IsRingTold};
+ghost use Rattle.vfio_driver.specs.Access.{after_notify, after_post, after_take, after_completion, lost, IsRingTold};
 
-use crate::access::{Answer, Known, Open, Turned};
-use admin_wire::read_done;
+use crate::access::{After, Answer, Known, Stage};
+use admin_wire::{Qualifier, Status, read_done};
 use board_text::Piece;
 use group_calls::{MemberReply, RingReply, Told};
 
 // The access ends with this answer.
-fn ended(known: Known, answer: Answer) -> Turned
-    ensures stage { result.stage ≡ Open.Nothing }
+fn ended(known: Known, answer: Answer) -> After
+    ensures stage { result.stage ≡ Stage.Nothing }
     ensures known { result.known ≡ known }
     ensures answer { result.answer ≡ Some answer }
 {
-    Turned {
-        stage: Open::Nothing,
+    After {
+        stage: Stage::Nothing,
         known,
         answer: Some(answer),
     }
 }
 
 // The member is gone.
-fn lost(known: Known, floor: u64) -> Turned
+fn lost(known: Known, floor: u64) -> After
     ensures { result ≡ lost known floor }
 {
     ended(
@@ -34,9 +34,9 @@ fn lost(known: Known, floor: u64) -> Turned
 }
 
 /// After a doorbell.
-pub(crate) fn ringing(known: Known, told: &Told) -> Turned
+pub(crate) fn after_notify(known: Known, told: &Told) -> After
     requires { IsRingTold told.now }
-    ensures { result ≡ ringing known told.now }
+    ensures { result ≡ after_notify known told.now }
 {
     match told {
         Told::Member(placed) => match &placed.reply {
@@ -54,13 +54,13 @@ pub(crate) fn ringing(known: Known, told: &Told) -> Turned
 }
 
 /// After a Post.
-pub(crate) fn posting(known: Known, queue: u32, reads: bool, told: &Told) -> Turned
-    ensures { result ≡ posting known queue reads told.now }
+pub(crate) fn after_post(known: Known, queue: u32, reads: bool, told: &Told) -> After
+    ensures { result ≡ after_post known queue reads told.now }
 {
     match told {
         Told::Queue(placed) => match &placed.reply {
-            RingReply::Seq(seq) => Turned {
-                stage: Open::Taking {
+            RingReply::Seq(seq) => After {
+                stage: Stage::Taking {
                     queue,
                     seq: *seq,
                     reads,
@@ -82,19 +82,19 @@ pub(crate) fn posting(known: Known, queue: u32, reads: bool, told: &Told) -> Tur
 }
 
 // After a completion.
-fn ready(known: Known, reads: bool, bytes: &Piece) -> Turned
-    ensures { result ≡ ready known reads bytes.now }
+fn after_completion(known: Known, reads: bool, bytes: &Piece) -> After
+    ensures { result ≡ after_completion known reads bytes.now }
 {
     let done = read_done(bytes);
-    if done.status == 0 {
+    if done.has_status(Status::Ok) {
         if reads {
             ended(known, Answer::Data(done.payload))
         } else {
             ended(known, Answer::Written)
         }
-    } else if done.status == 12 {
+    } else if done.has_status(Status::Enomem) {
         ended(known, Answer::RefusedMemory)
-    } else if done.qualifier == 2 {
+    } else if done.has_qualifier(Qualifier::InvalidField) {
         ended(known, Answer::Ones)
     } else {
         lost(known, 0)
@@ -102,8 +102,8 @@ fn ready(known: Known, reads: bool, bytes: &Piece) -> Turned
 }
 
 /// After a Take.
-pub(crate) fn taking(known: Known, queue: u32, seq: u64, reads: bool, told: &Told) -> Turned
-    ensures { result ≡ taking known queue seq reads told.now }
+pub(crate) fn after_take(known: Known, queue: u32, seq: u64, reads: bool, told: &Told) -> After
+    ensures { result ≡ after_take known queue seq reads told.now }
 {
     if let Told::Queue(placed) = told {
         if let RingReply::Ready { bytes, floor } = &placed.reply {
@@ -111,14 +111,14 @@ pub(crate) fn taking(known: Known, queue: u32, seq: u64, reads: bool, told: &Tol
                 floor: known.floor.max(*floor),
                 gone: known.gone,
             };
-            return ready(known, reads, bytes);
+            return after_completion(known, reads, bytes);
         }
         if let RingReply::Lost { floor } = &placed.reply {
             return lost(known, *floor);
         }
     }
-    Turned {
-        stage: Open::Taking { queue, seq, reads },
+    After {
+        stage: Stage::Taking { queue, seq, reads },
         known,
         answer: None,
     }
