@@ -1,16 +1,16 @@
-//! How far a line is, and how it goes on.
+//! The stages of a line, and the stage after an answer.
 ghost use Rattle.std.specs.Prelude.{◌≡◌, ◌+◌, ◌<◌, ◌≤◌, [], ◌∷◌, ◌++◌, length};
-ghost use Rattle.group_calls.specs.Limits.{group_limit};
-ghost use Rattle.host_machine.specs.Machine.{floor_of, first, killing, closing, turned};
+ghost use Rattle.byte_fields.specs.Sizes.{guest_limit};
+ghost use Rattle.host_machine.specs.Machine.{floor_of, first, killing, closing, after};
 ghost use Rattle.host_machine.specs.Within.{IsLow, kills_in, queue_in};
 
 use crate::line::HostLine;
 use board_text::{Bytes, Floors};
 use group_calls::{MemberReply, Told};
 
-/// How far a line is. Of this project.
+/// What a line asks next. Of this project.
 #[derive(Debug, Drop, PartialEq, Eq)]
-pub enum Way {
+pub enum Stage {
     /// The frame is to come to the member.
     Delivering { member: u32, frame: Bytes },
     /// The member is to be reset.
@@ -29,10 +29,10 @@ pub enum Way {
     Ended,
 }
 
-/// How far a line is, and the floors of the members that it has killed so far, in order. Of this project.
+/// A line that was begun: its stage, and the floors of the members that it has killed so far, in order. Of this project.
 #[derive(Debug, Drop, PartialEq, Eq)]
-pub struct Going {
-    pub way: Way,
+pub struct Underway {
+    pub stage: Stage,
     pub floors: Floors,
 }
 
@@ -51,76 +51,76 @@ fn floor_of(told: &Told) -> u64
 }
 
 // Each member is killed, and then the owner is reset.
-fn killing(members: u32, floors: &Floors) -> Way
+fn killing(members: u32, floors: &Floors) -> Stage
     ensures { result ≡ killing members floors.now }
 {
     if floors.length() < members {
-        Way::Killing
+        Stage::Killing
     } else {
-        Way::Resetting
+        Stage::Resetting
     }
 }
 
 // Each queue from this one on is reset.
-fn closing(queues: u32, queue: u32) -> Way
+fn closing(queues: u32, queue: u32) -> Stage
     ensures { result ≡ closing queues queue }
 {
     if queue < queues {
-        Way::Closing { queue }
+        Stage::Closing { queue }
     } else {
-        Way::Ended
+        Stage::Ended
     }
 }
 
 /// The beginning of a line.
-pub(crate) fn first(members: u32, line: HostLine) -> Going
+pub(crate) fn first(members: u32, line: HostLine) -> Underway
     ensures { result ≡ first members line }
 {
     let floors = Floors::new();
-    let way = match line {
-        HostLine::Frame { member, frame } => Way::Delivering { member, frame },
-        HostLine::Flr { member } => Way::Restarting { member },
-        HostLine::Disable { member } => Way::Disabling { member },
+    let stage = match line {
+        HostLine::Frame { member, frame } => Stage::Delivering { member, frame },
+        HostLine::Flr { member } => Stage::Restarting { member },
+        HostLine::Disable { member } => Stage::Disabling { member },
         HostLine::Reset => killing(members, &floors),
     };
-    Going { way, floors }
+    Underway { stage, floors }
 }
 
 // One member more was killed.
-fn killed(members: u32, floors: &Floors, floor: u64) -> Going
-    requires { length floors.now < group_limit }
+fn killed(members: u32, floors: &Floors, floor: u64) -> Underway
+    requires { length floors.now < guest_limit }
     ensures floors { result.floors ≡ floors.now ++ floor ∷ [] }
-    ensures way { result.way ≡ killing members (floors.now ++ floor ∷ []) }
+    ensures stage { result.stage ≡ killing members (floors.now ++ floor ∷ []) }
 {
     let mut floors = floors.copy();
     floors.push(floor);
-    Going {
-        way: killing(members, &floors),
+    Underway {
+        stage: killing(members, &floors),
         floors,
     }
 }
 
 /// After the answer to the ask.
-pub(crate) fn turned(members: u32, queues: u32, going: &Going, told: &Told) -> Going
-    requires few { members ≤ group_limit }
-    requires room { kills_in going.now.way + length going.now.floors ≤ members }
-    requires queue { queue_in going.now.way ≤ queues }
+pub(crate) fn after(members: u32, queues: u32, line: &Underway, told: &Told) -> Underway
+    requires few { members ≤ guest_limit }
+    requires room { kills_in line.now.stage + length line.now.floors ≤ members }
+    requires queue { queue_in line.now.stage ≤ queues }
     requires low { IsLow told.now }
-    ensures { result ≡ turned members queues going.now told.now }
+    ensures { result ≡ after members queues line.now told.now }
 {
-    let floors = &going.floors;
-    let way = match &going.way {
-        Way::Disabling { member } => Way::Leaving {
+    let floors = &line.floors;
+    let stage = match &line.stage {
+        Stage::Disabling { member } => Stage::Leaving {
             member: *member,
             floor: floor_of(told),
         },
-        Way::Killing => return killed(members, floors, floor_of(told)),
-        Way::Resetting => closing(queues, 0),
-        Way::Closing { queue } => closing(queues, *queue + 1),
-        _ => Way::Ended,
+        Stage::Killing => return killed(members, floors, floor_of(told)),
+        Stage::Resetting => closing(queues, 0),
+        Stage::Closing { queue } => closing(queues, *queue + 1),
+        _ => Stage::Ended,
     };
-    Going {
-        way,
+    Underway {
+        stage,
         floors: floors.copy(),
     }
 }
