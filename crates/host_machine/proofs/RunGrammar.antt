@@ -4,7 +4,7 @@ use Rattle.std.specs.Prelude.{nat_lt, IsSome, ◌↔◌}
 use Rattle.std.proofs.lemmas.List.{length_push}
 use Rattle.std.proofs.lemmas.Bool.Decides.{nat_tests}
 use Rattle.group_calls.specs.declared.ask.Ask.{Ask}
-use Rattle.group_calls.specs.declared.ask.Ask.TheVariants.{Owner, Member}
+use Rattle.group_calls.specs.declared.ask.Ask.TheVariants.{Owner, Queue, Member}
 use Rattle.group_calls.specs.declared.ask.Told.TheVariants.{NoMemory}
 use Rattle.group_calls.specs.declared.owner.OwnerCall.TheVariants.{Reset as ResetOwner}
 use Rattle.group_calls.specs.declared.member.MemberCall.{MemberCall}
@@ -16,8 +16,8 @@ use Rattle.host_machine.specs.declared.stage.Stage.{Stage}
 use Rattle.host_machine.specs.declared.stage.Stage.TheVariants.{Delivering, Restarting, Disabling, Leaving, Killing, Resetting, Closing, Ended}
 use Rattle.host_machine.specs.declared.stage.Underway.{Underway}
 use Rattle.host_machine.specs.Machine.{floor_of, killing, closing, killed, first, ask_on, next_ask, after_stage, after}
-use Rattle.host_machine.specs.Grammar.{IsOn, AreKills, floors_shown, AreResets, IsLine, is_delivered, is_restarted, is_disabled, all_are_reset, Begins}
-use Rattle.host_machine.specs.Floors.{IsAtFloor, AreAtFloors, IsLineAtFloors}
+use Rattle.host_machine.specs.Grammar.{IsOn, AreKills, floors_shown, AreResets, IsLine, is_delivered, is_restarted, is_disabled, all_are_reset, IsAnsweredLine, BeginsLine}
+use Rattle.host_machine.specs.Floors.{IsAtFloor, AreAtFloors}
 use Rattle.host_machine.specs.Runs.{after_all, AreAsked, IsWholeRun, IsOpenRun}
 
 some_same : {A : Type 0} (x y : A) → Some x ≡ Some y → x ≡ y
@@ -70,6 +70,20 @@ data Has (members queues : ℕ) : HostLine → Stage → List ℕ → List Excha
       → length kills ≡ members → AreKills kills → owner.0 ≡ Owner (ResetOwner (floors_shown kills)) → length resets < queues → AreResets (floors_shown kills) resets
       → Has members queues Reset (Closing (length resets)) (floors_shown kills) (resets ++ owner ∷ kills)
   ends : (line : HostLine) (floors : List ℕ) (xs : List Exchange) → IsLine members queues line xs → Has members queues line Ended floors xs
+
+-- an ask at the floor 0, if it is on a member
+abbrev with_floor : Ask → Ask
+with_floor (Member id at call) = Member id 0 call
+with_floor (Owner call) = Owner call
+with_floor (Queue index call) = Queue index call
+
+with_its_own : (ask : Ask) → IsAtFloor ask → with_floor ask ≡ ask
+with_its_own (Member id at call) is = ap (λ (f : ℕ). Member id f call) (sym is)
+with_its_own (Owner call) is = refl
+with_its_own (Queue index call) is = refl
+
+abbrev nearly : Ask → Option Ask
+nearly ask = Some (with_floor ask)
 
 module _ (members queues : ℕ) where
   abbrev HasCome : HostLine → Underway → List Exchange → Type 0
@@ -140,48 +154,51 @@ module _ (members queues : ℕ) where
   at_floors line [] asked = tt
   at_floors line (x ∷ past) asked = (at_floor _ _ x.0 asked.0, at_floors line past asked.1)
 
-  line_of : (line : HostLine) (xs : List Exchange) → IsWholeRun members queues line xs → IsLineAtFloors members queues line xs
+  line_of : (line : HostLine) (xs : List Exchange) → IsWholeRun members queues line xs → IsAnsweredLine members queues line xs × AreAtFloors xs
   line_of line xs run = ((run.0, ended line _ _ xs (has line xs run.1) run.2), at_floors line xs run.1)
 
   -- ---- and from the grammar to a run
 
-  -- an ask on a member at its floor
-  at_zero : (m : ℕ) (call : MemberCall) (x : Exchange) → IsOn m call x → IsAtFloor x.0 → x.0 ≡ Member m 0 call
-  at_zero m call x (floor, is) at =
-      let none : floor ≡ 0 = subst IsAtFloor is at in
-      is ∙ ap (λ (f : ℕ). Member m f call) none
+  -- each ask is the machine's next, but for its floor
+  abbrev AreNearlyAsked : HostLine → List Exchange → Type 0
+  AreNearlyAsked line [] = Unit {0}
+  AreNearlyAsked line (x ∷ past) = (next_ask (after_all members queues line past) ≡ Some (with_floor x.0)) × AreNearlyAsked line past
 
-  kills_run : (xs : List Exchange) → AreKills xs → AreAtFloors xs → length xs ≤ members → AreAsked members queues Reset xs × (after_all members queues Reset xs ≡ killed members (floors_shown xs))
-  kills_run [] are at few = (tt, refl)
-  kills_run (x ∷ past) are at few =
-      let earlier = kills_run past are.1 at.1 (omega arith) in
+  asked_at : (line : HostLine) (xs : List Exchange) → AreNearlyAsked line xs → AreAtFloors xs → AreAsked members queues line xs
+  asked_at line [] asked at = tt
+  asked_at line (x ∷ past) asked at = (asked.0 ∙ ap Some (with_its_own x.0 at.0), asked_at line past asked.1 at.1)
+
+  kills_run : (xs : List Exchange) → AreKills xs → length xs ≤ members → AreNearlyAsked Reset xs × (after_all members queues Reset xs ≡ killed members (floors_shown xs))
+  kills_run [] are few = (tt, refl)
+  kills_run (x ∷ past) are few =
+      let earlier = kills_run past are.1 (omega arith) in
       let l = length-floors_shown past in
       let open_yet : killing members (floors_shown past) ≡ Killing = ap (λ b. if b then Killing else Resetting) (below_is (length (floors_shown past)) members (omega arith)) in
       let now : after_all members queues Reset past ≡ record { stage = Killing; floors = floors_shown past } = earlier.1 ∙ ap (λ stage. record { stage = stage; floors = floors_shown past }) open_yet in
-      ((ap next_ask now ∙ ap (λ n. Some (Member (n + 1) 0 Kill)) l ∙ ap Some (sym (at_zero (length past + 1) Kill x are.0 at.0)), earlier.0), ap (λ going. after members queues going x.1) now)
+      ((ap next_ask now ∙ ap (λ n. Some (Member (n + 1) 0 Kill)) l ∙ ap nearly (sym are.0.1), earlier.0), ap (λ going. after members queues going x.1) now)
 
-  resets_run : (xs ys : List Exchange) (owner : Exchange) → length xs ≡ members → AreKills xs → owner.0 ≡ Owner (ResetOwner (floors_shown xs)) → AreResets (floors_shown xs) ys → AreAtFloors (ys ++ owner ∷ xs) → length ys ≤ queues
-      → AreAsked members queues Reset (ys ++ owner ∷ xs) × (after_all members queues Reset (ys ++ owner ∷ xs) ≡ record { stage = closing queues (length ys); floors = floors_shown xs })
-  resets_run xs [] owner all are is closed at few =
-      let earlier = kills_run xs are at.1 (omega arith) in
+  resets_run : (xs ys : List Exchange) (owner : Exchange) → length xs ≡ members → AreKills xs → owner.0 ≡ Owner (ResetOwner (floors_shown xs)) → AreResets (floors_shown xs) ys → length ys ≤ queues
+      → AreNearlyAsked Reset (ys ++ owner ∷ xs) × (after_all members queues Reset (ys ++ owner ∷ xs) ≡ record { stage = closing queues (length ys); floors = floors_shown xs })
+  resets_run xs [] owner all are is closed few =
+      let earlier = kills_run xs are (omega arith) in
       let l = length-floors_shown xs in
       let done : killing members (floors_shown xs) ≡ Resetting = ap (λ b. if b then Killing else Resetting) (not_below_is (length (floors_shown xs)) members (omega arith)) in
       let now : after_all members queues Reset xs ≡ record { stage = Resetting; floors = floors_shown xs } = earlier.1 ∙ ap (λ stage. record { stage = stage; floors = floors_shown xs }) done in
-      ((ap next_ask now ∙ ap Some (sym is), earlier.0), ap (λ going. after members queues going owner.1) now)
-  resets_run xs (y ∷ ys) owner all are is closed at few =
-      let earlier = resets_run xs ys owner all are is closed.1 at.1 (omega arith) in
+      ((ap next_ask now ∙ ap nearly (sym is), earlier.0), ap (λ going. after members queues going owner.1) now)
+  resets_run xs (y ∷ ys) owner all are is closed few =
+      let earlier = resets_run xs ys owner all are is closed.1 (omega arith) in
       let open_yet : closing queues (length ys) ≡ Closing (length ys) = ap (λ b. if b then Closing (length ys) else Ended) (below_is (length ys) queues (omega arith)) in
       let now : after_all members queues Reset (ys ++ owner ∷ xs) ≡ record { stage = Closing (length ys); floors = floors_shown xs } = earlier.1 ∙ ap (λ stage. record { stage = stage; floors = floors_shown xs }) open_yet in (
-        (ap next_ask now ∙ ap Some (sym closed.0), earlier.0),
+        (ap next_ask now ∙ ap nearly (sym closed.0), earlier.0),
         ap (λ going. after members queues going y.1) now ∙ ap (λ n. record { stage = closing queues n; floors = floors_shown xs }) (sym (one_more (length ys))),
       )
 
-  run_of : (line : HostLine) (xs : List Exchange) → IsLine members queues line xs → AreAtFloors xs → AreAsked members queues line xs × (next_ask (after_all members queues line xs) ≡ None)
-  run_of _ _ (is_delivered m frame x is) at = ((ap Some (sym (at_zero m (Arrive frame) x is at.0)), tt), refl)
-  run_of _ _ (is_restarted m x is) at = ((ap Some (sym (at_zero m ResetMember x is at.0)), tt), refl)
-  run_of _ _ (is_disabled m kill gone is is_gone) at = ((ap Some (sym is_gone), (ap Some (sym (at_zero m Kill kill is at.1.0)), tt)), refl)
-  run_of _ _ (all_are_reset xs ys owner all are is every closed) at =
-      let run = resets_run xs ys owner all are is closed at (omega arith) in
+  run_of : (line : HostLine) (xs : List Exchange) → IsLine members queues line xs → AreNearlyAsked line xs × (next_ask (after_all members queues line xs) ≡ None)
+  run_of _ _ (is_delivered m frame x is) = ((ap nearly (sym is.1), tt), refl)
+  run_of _ _ (is_restarted m x is) = ((ap nearly (sym is.1), tt), refl)
+  run_of _ _ (is_disabled m kill gone is is_gone) = ((ap nearly (sym is_gone), (ap nearly (sym is.1), tt)), refl)
+  run_of _ _ (all_are_reset xs ys owner all are is every closed) =
+      let run = resets_run xs ys owner all are is closed (omega arith) in
       let done : closing queues (length ys) ≡ Ended = ap (λ b. if b then Closing (length ys) else Ended) (not_below_is (length ys) queues (omega arith)) in
       (run.0, ap next_ask (run.1 ∙ ap (λ stage. record { stage = stage; floors = floors_shown xs }) done))
 
@@ -257,28 +274,30 @@ module _ (members queues : ℕ) where
       let less = lower going.floors going.stage ask next in
       onwards line xs (ask, NoMemory) (finishes n line ((ask, NoMemory) ∷ xs) (one_asked line xs ask run next) (omega arith) (next_ask (after_all members queues line ((ask, NoMemory) ∷ xs))) refl)
 
-  begins_line : (line : HostLine) (xs : List Exchange) → HasRun line xs → (o : Option Ask) → next_ask (after_all members queues line xs) ≡ o → IsSome o → Begins (IsLineAtFloors members queues line) xs
+  begins_line : (line : HostLine) (xs : List Exchange) → HasRun line xs → (o : Option Ask) → next_ask (after_all members queues line xs) ≡ o → IsSome o → BeginsLine members queues line xs
   begins_line line xs run None next some = absurd (cc)
   begins_line line xs run (Some ask) next some =
       let x : Exchange = (ask, NoMemory) in
       let rest = finishes (left_after line (x ∷ xs)) line (x ∷ xs) (one_asked line xs ask run next) (omega arith) (next_ask (after_all members queues line (x ∷ xs))) refl in
-      (x, rest.0, line_of line (rest.0 ++ x ∷ xs) rest.1)
+      (x, rest.0, (line_of line (rest.0 ++ x ∷ xs) rest.1).0)
 
-  asked_before : (line : HostLine) (more xs : List Exchange) → AreAsked members queues line (more ++ xs) → AreAsked members queues line xs
+  asked_before : (line : HostLine) (more xs : List Exchange) → AreNearlyAsked line (more ++ xs) → AreNearlyAsked line xs
   asked_before line [] xs asked = asked
   asked_before line (x ∷ more) xs asked = asked_before line more xs asked.1
 
-  open_run : (line : HostLine) (xs : List Exchange) → Begins (IsLineAtFloors members queues line) xs → IsOpenRun members queues line xs
-  open_run line xs (next, more, is) =
-      let asked = asked_before line more (next ∷ xs) (run_of line (more ++ next ∷ xs) is.0.1 is.1).0 in
-      ((answered_before more (next ∷ xs) is.0.0).1, asked.1, is_some_next (next_ask (after_all members queues line xs)) next.0 asked.0)
+  open_run : (line : HostLine) (xs : List Exchange) → BeginsLine members queues line xs → AreAtFloors xs → IsOpenRun members queues line xs
+  open_run line xs (next, more, is) at =
+      let asked = asked_before line more (next ∷ xs) (run_of line (more ++ next ∷ xs) is.1).0 in
+      ((answered_before more (next ∷ xs) is.0).1, asked_at line xs asked.1 at, is_some_next (next_ask (after_all members queues line xs)) (with_floor next.0) asked.0)
 
 -- ---- both ways
 
-pub whole : (members queues : ℕ) (line : HostLine) (xs : List Exchange) → IsWholeRun members queues line xs ↔ IsLineAtFloors members queues line xs
+pub whole : (members queues : ℕ) (line : HostLine) (xs : List Exchange) → IsWholeRun members queues line xs ↔ (IsAnsweredLine members queues line xs × AreAtFloors xs)
 whole members queues line xs =
-    (line_of members queues line xs, λ is. let run = run_of members queues line xs is.0.1 is.1 in (is.0.0, run.0, run.1))
+    (line_of members queues line xs, λ is. let run = run_of members queues line xs is.0.1 in (is.0.0, asked_at members queues line xs run.0 is.1, run.1))
 
-pub begun : (members queues : ℕ) (line : HostLine) (xs : List Exchange) → IsOpenRun members queues line xs ↔ Begins (IsLineAtFloors members queues line) xs
-begun members queues line xs =
-    (λ run. begins_line members queues line xs (run.0, run.1) (next_ask (after_all members queues line xs)) refl run.2, open_run members queues line xs)
+pub begun : (members queues : ℕ) (line : HostLine) (xs : List Exchange) → IsOpenRun members queues line xs ↔ (BeginsLine members queues line xs × AreAtFloors xs)
+begun members queues line xs = (
+  λ run. (begins_line members queues line xs (run.0, run.1) (next_ask (after_all members queues line xs)) refl run.2, at_floors members queues line xs run.1),
+  λ b. open_run members queues line xs b.0 b.1,
+)

@@ -3,8 +3,6 @@ use Rattle.std.specs.Prelude.{◌≡◌, ℕ, List, [], ◌∷◌}
 use Rattle.group_calls.specs.declared.ask.Ask.{Ask}
 use Rattle.group_calls.specs.declared.ask.Ask.TheVariants.{Member}
 use Rattle.group_calls.specs.Asks.{Exchange}
-use Rattle.host_machine.specs.declared.line.HostLine.{HostLine}
-use Rattle.host_machine.specs.Grammar.{IsAnsweredLine}
 
 -- a line knows no floor: an ask on a member has the floor 0
 abbrev pub IsAtFloor : Ask → Type 0
@@ -14,7 +12,3 @@ IsAtFloor _ = Unit {0}
 abbrev pub AreAtFloors : List Exchange → Type 0
 AreAtFloors [] = Unit {0}
 AreAtFloors (x ∷ past) = IsAtFloor x.0 × AreAtFloors past
-
--- a line with its answers and with these floors
-abbrev pub IsLineAtFloors : ℕ → ℕ → HostLine → List Exchange → Type 0
-IsLineAtFloors members queues line xs = IsAnsweredLine members queues line xs × AreAtFloors xs

@@ -42,10 +42,6 @@ pub data IsLine (members queues : ℕ) : HostLine → List Exchange → Type 0 w
 abbrev pub IsAnsweredLine : ℕ → ℕ → HostLine → List Exchange → Type 0
 IsAnsweredLine members queues line xs = AreAnswered xs × IsLine members queues line xs
 
--- the beginning of a list that is so, which isn't all of it
-abbrev pub Begins : (List Exchange → Type 0) → List Exchange → Type 0
-Begins IsWhole xs = (next : Exchange) × (more : List Exchange) × IsWhole (more ++ next ∷ xs)
-
--- the beginning of a line with its answers
+-- the beginning of one, which isn't all of it
 abbrev pub BeginsLine : ℕ → ℕ → HostLine → List Exchange → Type 0
-BeginsLine members queues line xs = Begins (IsAnsweredLine members queues line) xs
+BeginsLine members queues line xs = (next : Exchange) × (more : List Exchange) × IsAnsweredLine members queues line (more ++ next ∷ xs)

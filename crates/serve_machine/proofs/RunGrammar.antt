@@ -19,8 +19,8 @@ use Rattle.serve_machine.specs.declared.stage.Stage.{Stage}
 use Rattle.serve_machine.specs.declared.stage.Stage.TheVariants.{Popping, Judging, Acting, Completing, Ended}
 use Rattle.serve_machine.specs.Completion.{completed_with, completed_under}
 use Rattle.serve_machine.specs.Service.{next_ask, after, after_pop, after_judge, completing}
-use Rattle.serve_machine.specs.Grammar.{FindsNothing, Finds, IsPop, IsJudge, passed_on, IsAct, IsService, finds_nothing, is_decided, is_carried_out, Begins}
-use Rattle.serve_machine.specs.Floors.{floor_fetched, IsAtFloor, AreAtFloors, IsServiceAtFloors}
+use Rattle.serve_machine.specs.Grammar.{FindsNothing, Finds, IsPop, IsJudge, passed_on, IsAct, IsService, finds_nothing, is_decided, is_carried_out, IsAnsweredService, BeginsService}
+use Rattle.serve_machine.specs.Floors.{floor_fetched, IsAtFloor, AreAtFloors}
 use Rattle.serve_machine.specs.Runs.{stage_after, AreAsked, IsWholeRun, IsOpenRun}
 use Rattle.serve_machine.proofs.Replies.{IsPopReply, IsPopTold, pop_told}
 
@@ -177,54 +177,71 @@ finds_none : FindsNothing popped_nothing
 unfolding popped_nothing
 finds_none = tt
 
-comes_on : (k : ℕ) (stage : Stage) (xs : List Exchange) → Has k stage xs → AreAnswered xs → AreAtFloors xs → IsSome (next_ask k stage) → Begins (IsServiceAtFloors k) xs
-comes_on k _ _ begins answered at some = ((Queue k Pop, popped_nothing), [], (((pop_may_find_nothing k, tt), finds_nothing (Queue k Pop, popped_nothing) refl finds_none), (tt, tt)))
-comes_on k _ _ (found p pop is_pop finds) answered at some =
+comes_on : (k : ℕ) (stage : Stage) (xs : List Exchange) → Has k stage xs → AreAnswered xs → IsSome (next_ask k stage) → BeginsService k xs
+comes_on k _ _ begins answered some = ((Queue k Pop, popped_nothing), [], ((pop_may_find_nothing k, tt), finds_nothing (Queue k Pop, popped_nothing) refl finds_none))
+comes_on k _ _ (found p pop is_pop finds) answered some =
     let judge : Exchange = (Owner (Judge p.bytes p.writable), NoMemory) in
-    (judge, completion k p NoMemory ∷ [], (((completion_answered k p NoMemory, (tt, answered)), is_decided p pop judge (completion k p NoMemory) is_pop finds refl refl refl), (tt, (tt, at))))
-comes_on k _ _ (passes p to pop judge is_pop finds is_judge passed) answered at some =
+    (judge, completion k p NoMemory ∷ [], ((completion_answered k p NoMemory, (tt, answered)), is_decided p pop judge (completion k p NoMemory) is_pop finds refl refl refl))
+comes_on k _ _ (passes p to pop judge is_pop finds is_judge passed) answered some =
     let act : Exchange = (Member to.0 p.tag.floor (Act to.1), NoMemory) in
-    let act_at = sym (act_floor p to pop judge finds passed) in
-    (act, completion k p NoMemory ∷ [], (((completion_answered k p NoMemory, (tt, answered)), is_carried_out p to pop judge act (completion k p NoMemory) is_pop finds is_judge passed (p.tag.floor, refl) refl), (tt, (act_at, at))))
-comes_on k _ _ (decides p pop judge is_pop finds is_judge passed) answered at some =
-    (completion k p judge.1, [], (((completion_answered k p judge.1, answered), is_decided p pop judge (completion k p judge.1) is_pop finds is_judge passed refl), (tt, at)))
-comes_on k _ _ (carries p to pop judge act is_pop finds is_judge passed is_act) answered at some =
-    (completion k p act.1, [], (((completion_answered k p act.1, answered), is_carried_out p to pop judge act (completion k p act.1) is_pop finds is_judge passed is_act refl), (tt, at)))
-comes_on k _ _ (ends xs service) answered at some = absurd (cc)
+    (act, completion k p NoMemory ∷ [], ((completion_answered k p NoMemory, (tt, answered)), is_carried_out p to pop judge act (completion k p NoMemory) is_pop finds is_judge passed (p.tag.floor, refl) refl))
+comes_on k _ _ (decides p pop judge is_pop finds is_judge passed) answered some =
+    (completion k p judge.1, [], ((completion_answered k p judge.1, answered), is_decided p pop judge (completion k p judge.1) is_pop finds is_judge passed refl))
+comes_on k _ _ (carries p to pop judge act is_pop finds is_judge passed is_act) answered some =
+    (completion k p act.1, [], ((completion_answered k p act.1, answered), is_carried_out p to pop judge act (completion k p act.1) is_pop finds is_judge passed is_act refl))
+comes_on k _ _ (ends xs service) answered some = absurd (cc)
 
 -- ---- and from the grammar to a run
 
-pop_runs : (k : ℕ) (pop : Exchange) → IsPop k pop → AreAsked k (pop ∷ [])
-pop_runs k pop is = (ap Some (sym is), tt)
+-- an ask at this floor, if it is on a member
+abbrev with_floor : ℕ → Ask → Ask
+with_floor floor (Member id at call) = Member id floor call
+with_floor floor (Owner call) = Owner call
+with_floor floor (Queue index call) = Queue index call
 
-judge_runs : (k : ℕ) (p : Posted) (pop judge : Exchange) → IsPop k pop → Finds p pop.1 → IsJudge p judge → AreAsked k (judge ∷ pop ∷ [])
-judge_runs k p pop judge is_pop finds is = (ap (next_ask k) (found_stage p pop.1 finds) ∙ ap Some (sym is), pop_runs k pop is_pop)
+with_its_own : (floor : ℕ) (ask : Ask) → IsAtFloor floor ask → with_floor floor ask ≡ ask
+with_its_own floor (Member id at call) is = ap (λ (f : ℕ). Member id f call) (sym is)
+with_its_own floor (Owner call) is = refl
+with_its_own floor (Queue index call) is = refl
+
+-- each ask is the machine's next, but for its floor
+abbrev AreNearlyAsked : ℕ → List Exchange → Type 0
+AreNearlyAsked k [] = Unit {0}
+AreNearlyAsked k (x ∷ past) = (next_ask k (stage_after past) ≡ Some (with_floor (latest_or 0 floor_fetched past) x.0)) × AreNearlyAsked k past
+
+asked_at : (k : ℕ) (xs : List Exchange) → AreNearlyAsked k xs → AreAtFloors xs → AreAsked k xs
+asked_at k [] asked at = tt
+asked_at k (x ∷ past) asked at = (asked.0 ∙ ap Some (with_its_own (latest_or 0 floor_fetched past) x.0 at.0), asked_at k past asked.1 at.1)
+
+-- behind these exchanges
+abbrev nearly : List Exchange → Ask → Option Ask
+nearly past ask = Some (with_floor (latest_or 0 floor_fetched past) ask)
+
+pop_runs : (k : ℕ) (pop : Exchange) → IsPop k pop → AreNearlyAsked k (pop ∷ [])
+pop_runs k pop is = (ap (nearly []) (sym is), tt)
+
+judge_runs : (k : ℕ) (p : Posted) (pop judge : Exchange) → IsPop k pop → Finds p pop.1 → IsJudge p judge → AreNearlyAsked k (judge ∷ pop ∷ [])
+judge_runs k p pop judge is_pop finds is = (ap (next_ask k) (found_stage p pop.1 finds) ∙ ap (nearly (pop ∷ [])) (sym is), pop_runs k pop is_pop)
 
 -- the stage after a Pop and a Judge
 second : (p : Posted) (pop judge : Exchange) → Finds p pop.1 → stage_after (judge ∷ pop ∷ []) ≡ after_judge (kept p) judge.1
 second p pop judge finds = ap (λ stage. after stage judge.1) (found_stage p pop.1 finds)
 
--- the floor of an Act whose ask has this one
-same_floor : (floor at m : ℕ) (access : LegacyCmd) (ask : Ask) → IsAtFloor floor ask → ask ≡ Member m at (Act access) → ask ≡ Member m floor (Act access)
-same_floor floor at m access ask right is =
-    let e : at ≡ floor = subst (IsAtFloor floor) is right in
-    is ∙ ap (λ (f : ℕ). Member m f (Act access)) e
-
-run_of : (k : ℕ) (xs : List Exchange) → IsService k xs → AreAtFloors xs → AreAsked k xs × (next_ask k (stage_after xs) ≡ None)
-run_of k _ (finds_nothing pop is_pop nothing) at = (pop_runs k pop is_pop, ap (next_ask k) (nothing_stage pop.1 nothing))
-run_of k _ (is_decided p pop judge complete is_pop finds is_judge passed is_complete) at =
+run_of : (k : ℕ) (xs : List Exchange) → IsService k xs → AreNearlyAsked k xs × (next_ask k (stage_after xs) ≡ None)
+run_of k _ (finds_nothing pop is_pop nothing) = (pop_runs k pop is_pop, ap (next_ask k) (nothing_stage pop.1 nothing))
+run_of k _ (is_decided p pop judge complete is_pop finds is_judge passed is_complete) =
     let stage = second p pop judge finds ∙ judged_stage p judge.1 None passed in
-    ((ap (next_ask k) stage ∙ ap Some (sym is_complete), judge_runs k p pop judge is_pop finds is_judge), ap (λ s. next_ask k (after s complete.1)) stage)
-run_of k _ (is_carried_out p to pop judge act complete is_pop finds is_judge passed is_act is_complete) at =
+    ((ap (next_ask k) stage ∙ ap (nearly (judge ∷ pop ∷ [])) (sym is_complete), judge_runs k p pop judge is_pop finds is_judge), ap (λ s. next_ask k (after s complete.1)) stage)
+run_of k _ (is_carried_out p to pop judge act complete is_pop finds is_judge passed is_act is_complete) =
     let before = second p pop judge finds ∙ judged_stage p judge.1 (Some to) passed in
     let stage = ap (λ s. after s act.1) before in
-    let floor_is = act_floor p to pop judge finds passed in
-    let asks = same_floor p.tag.floor is_act.0 to.0 to.1 act.0 (subst (λ (f : ℕ). IsAtFloor f act.0) floor_is at.1.0) is_act.1 in (
-      (ap (next_ask k) stage ∙ ap Some (sym is_complete), (ap (next_ask k) before ∙ ap Some (sym asks), judge_runs k p pop judge is_pop finds is_judge)),
+    let floor_is = ap (λ (f : ℕ). Some (Member to.0 f (Act to.1))) (sym (act_floor p to pop judge finds passed)) in
+    let asks = ap (nearly (judge ∷ pop ∷ [])) (sym is_act.1) in (
+      (ap (next_ask k) stage ∙ ap (nearly (act ∷ judge ∷ pop ∷ [])) (sym is_complete), (ap (next_ask k) before ∙ floor_is ∙ asks, judge_runs k p pop judge is_pop finds is_judge)),
       ap (λ s. next_ask k (after s complete.1)) stage,
     )
 
-asked_before : (k : ℕ) (more xs : List Exchange) → AreAsked k (more ++ xs) → AreAsked k xs
+asked_before : (k : ℕ) (more xs : List Exchange) → AreNearlyAsked k (more ++ xs) → AreNearlyAsked k xs
 asked_before k [] xs asked = asked
 asked_before k (x ∷ more) xs asked = asked_before k more xs asked.1
 
@@ -237,16 +254,18 @@ is_some_next o y e = subst IsSome (sym e) (search)
 
 -- ---- both ways
 
-pub whole : (k : ℕ) (xs : List Exchange) → IsWholeRun k xs ↔ IsServiceAtFloors k xs
+pub whole : (k : ℕ) (xs : List Exchange) → IsWholeRun k xs ↔ (IsAnsweredService k xs × AreAtFloors xs)
 whole k xs = (
   λ run. ((run.0, ended k (stage_after xs) xs (has k xs run.0 run.1) run.2), at_floors k xs run.0 run.1),
-  λ is. let run = run_of k xs is.0.1 is.1 in (is.0.0, run.0, run.1),
+  λ is. let run = run_of k xs is.0.1 in (is.0.0, asked_at k xs run.0 is.1, run.1),
 )
 
-pub begun : (k : ℕ) (xs : List Exchange) → IsOpenRun k xs ↔ Begins (IsServiceAtFloors k) xs
+pub begun : (k : ℕ) (xs : List Exchange) → IsOpenRun k xs ↔ (BeginsService k xs × AreAtFloors xs)
 begun k xs = (
-  λ run. comes_on k (stage_after xs) xs (has k xs run.0 run.1) run.0 (at_floors k xs run.0 run.1) run.2,
+  λ run. (comes_on k (stage_after xs) xs (has k xs run.0 run.1) run.0 run.2, at_floors k xs run.0 run.1),
   λ b.
-      let asked = asked_before k b.1 (b.0 ∷ xs) (run_of k (b.1 ++ b.0 ∷ xs) b.2.0.1 b.2.1).0 in
-      ((answered_before b.1 (b.0 ∷ xs) b.2.0.0).1, asked.1, is_some_next (next_ask k (stage_after xs)) b.0.0 asked.0),
+      let next = b.0.0 in
+      let more = b.0.1 in
+      let asked = asked_before k more (next ∷ xs) (run_of k (more ++ next ∷ xs) b.0.2.1).0 in
+      ((answered_before more (next ∷ xs) b.0.2.0).1, asked_at k xs asked.1 b.1, is_some_next (next_ask k (stage_after xs)) (with_floor (latest_or 0 floor_fetched xs) next.0) asked.0),
 )

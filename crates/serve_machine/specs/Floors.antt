@@ -6,7 +6,6 @@ use Rattle.group_calls.specs.declared.ask.Ask.TheVariants.{Member}
 use Rattle.group_calls.specs.declared.ask.Told.TheVariants.{Queue as FromQueue}
 use Rattle.group_calls.specs.declared.queue.RingReply.TheVariants.{Fetched}
 use Rattle.group_calls.specs.Asks.{Exchange}
-use Rattle.serve_machine.specs.Grammar.{IsAnsweredService}
 
 -- the floor in the tag of the command that a Pop fetched
 abbrev pub floor_fetched : Exchange → Option ℕ
@@ -24,7 +23,3 @@ IsAtFloor floor _ = Unit {0}
 abbrev pub AreAtFloors : List Exchange → Type 0
 AreAtFloors [] = Unit {0}
 AreAtFloors (x ∷ past) = IsAtFloor (latest_or 0 floor_fetched past) x.0 × AreAtFloors past
-
--- a service with its answers and with these floors
-abbrev pub IsServiceAtFloors : ℕ → List Exchange → Type 0
-IsServiceAtFloors k xs = IsAnsweredService k xs × AreAtFloors xs

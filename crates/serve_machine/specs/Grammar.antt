@@ -62,10 +62,6 @@ pub data IsService (k : ℕ) : List Exchange → Type 0 where
 abbrev pub IsAnsweredService : ℕ → List Exchange → Type 0
 IsAnsweredService k xs = AreAnswered xs × IsService k xs
 
--- the beginning of a list that is so, which isn't all of it
-abbrev pub Begins : (List Exchange → Type 0) → List Exchange → Type 0
-Begins IsWhole xs = (next : Exchange) × (more : List Exchange) × IsWhole (more ++ next ∷ xs)
-
--- the beginning of a service with its answers
+-- the beginning of one, which isn't all of it
 abbrev pub BeginsService : ℕ → List Exchange → Type 0
-BeginsService k xs = Begins (IsAnsweredService k) xs
+BeginsService k xs = (next : Exchange) × (more : List Exchange) × IsAnsweredService k (more ++ next ∷ xs)

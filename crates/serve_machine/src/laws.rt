@@ -4,19 +4,20 @@ ghost use Rattle.byte_fields.specs.Places.{le16};
 ghost use Rattle.group_calls.specs.declared.ask.Ask.TheVariants.{Queue};
 ghost use Rattle.group_calls.specs.declared.queue.RingCall.TheVariants.{Complete};
 ghost use Rattle.group_calls.specs.Asks.{Exchange};
-ghost use Rattle.serve_machine.specs.Grammar.{IsAnsweredService, Begins};
-ghost use Rattle.serve_machine.specs.Floors.{IsServiceAtFloors};
+ghost use Rattle.serve_machine.specs.Grammar.{IsAnsweredService, BeginsService};
+ghost use Rattle.serve_machine.specs.Floors.{AreAtFloors};
 ghost use Rattle.serve_machine.specs.Runs.{IsWholeRun, IsOpenRun};
 ghost use Rattle.serve_machine.specs.Causes.{HasItsCause};
 
 use crate::server::Server;
 use crate::stage::{Fetched, Stage};
 
-/// What `Server` asks until nothing is left is a service by the grammar, at the floors of the fetched command's tag, and
-/// what it has asked before is the beginning of one. The machine asks every such service.
+/// What `Server` asks until nothing is left is a service by the grammar, and what it has asked before is the beginning of
+/// one, each ask on a member at the floor of the fetched command's tag. The machine asks every service that the grammar
+/// has with these floors.
 pub fn the_machine_asks_what_the_grammar_has()
-    ensures whole { (queue : ℕ) (xs : List Exchange) → IsWholeRun queue xs ↔ IsServiceAtFloors queue xs }
-    ensures begun { (queue : ℕ) (xs : List Exchange) → IsOpenRun queue xs ↔ Begins (IsServiceAtFloors queue) xs }
+    ensures whole { (queue : ℕ) (xs : List Exchange) → IsWholeRun queue xs ↔ (IsAnsweredService queue xs × AreAtFloors xs) }
+    ensures begun { (queue : ℕ) (xs : List Exchange) → IsOpenRun queue xs ↔ (BeginsService queue xs × AreAtFloors xs) }
 {}
 
 /// A command is completed with ENOMEM exactly where there was no memory for its Judge or its Act, with OK exactly where it

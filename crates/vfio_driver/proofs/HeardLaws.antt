@@ -1,5 +1,5 @@
 -- What the machine asks, knows and answers is by what it heard.
-use Rattle.std.proofs.Common.{◌≡◌, ℕ, ◌+◌, false, List, [], ◌∷◌, ◌++◌, Option, Some, None, refl, sym, ap, subst, ◌∙◌}
+use Rattle.std.proofs.Common.{◌≡◌, ◌⊎◌, inl, inr, ℕ, ◌+◌, Bool, true, false, List, [], ◌∷◌, ◌++◌, Option, Some, None, refl, sym, ap, subst, ◌∙◌, if◌then◌else◌}
 use Rattle.std.specs.Prelude.{IsSome, ◌↔◌, ◌||◌, max}
 use Rattle.admin_wire.specs.Numbers.{fixed_size}
 use Rattle.admin_wire.specs.Writing.{legacy_bytes, result_length}
@@ -11,13 +11,15 @@ use Rattle.group_calls.specs.declared.queue.RingReply.TheVariants.{Full}
 use Rattle.group_calls.specs.declared.member.MemberCall.TheVariants.{Notify}
 use Rattle.group_calls.specs.Asks.{AnswersAsk, Exchange, AreAnswered}
 use Rattle.io_bar.specs.declared.access.Route.{Route}
+use Rattle.io_bar.specs.declared.access.Route.TheVariants.{Command, Doorbell, Local}
+use Rattle.vfio_driver.specs.declared.access.Started.TheVariants.{Local as StaysHere}
 use Rattle.vfio_driver.specs.declared.access.Answer.{Answer}
 use Rattle.vfio_driver.specs.declared.access.Answer.TheVariants.{Data, Written, Ones, RefusedFull, RefusedMemory}
 use Rattle.vfio_driver.specs.declared.access.Stage.{Stage}
 use Rattle.vfio_driver.specs.declared.access.Stage.TheVariants.{Nothing, Ringing, Posting, Taking}
 use Rattle.vfio_driver.specs.declared.access.Known.{Known}
 use Rattle.vfio_driver.specs.declared.access.After.{After}
-use Rattle.vfio_driver.specs.Access.{is_read, next_ask, after}
+use Rattle.vfio_driver.specs.Access.{is_read, next_ask, after, started_by, started}
 use Rattle.vfio_driver.specs.Grammar.{IsAnsweredAccess, BeginsAccess}
 use Rattle.vfio_driver.specs.Heard.{Heard, answered, learnt, asks_of, floor_told, tells_gone, greatest_floor, is_known_gone, reads_by, answer_by, answer_heard, GivesOnes, GivesFull, GivesNoMemory, GivesData, GivesWritten, GoesOn, IsAtFloor, AreAtFloors}
 use Rattle.vfio_driver.specs.Runs.{after_all, AreAsked, IsRun, IsWholeRun, IsOpenRun}
@@ -196,7 +198,29 @@ module _ (guest : ℕ) (known : Known) (queue : ℕ) (route : Route) where
   pub unanswered : (x : Exchange) (past : List Heard) → IsRun guest known queue route (answered x ∷ past) → (answer_then x past ≡ None) ↔ GoesOn x.1
   unanswered x past run = by_reply (λ a. (a ≡ None) ↔ GoesOn x.1) x past run (looked x past run.answered run.asked).goes_on
 
-  pub full_is : (x : Exchange) (past : List Heard) (other place : ℕ) → IsRun guest known queue route (answered x ∷ past) → answer_then x past ≡ Some (RefusedFull other place) → (other ≡ queue) × GivesFull queue place x
-  full_is x past other place run is =
-      let by = full_by queue (reads_by route) x.1 other place (sym (looked x past run.answered run.asked).answer ∙ is) in
-      (by.0, posted_full x past run.answered run.asked place by.1)
+  pub full_is : (x : Exchange) (past : List Heard) (other place : ℕ) → IsRun guest known queue route (answered x ∷ past) → (answer_then x past ≡ Some (RefusedFull other place)) ↔ ((other ≡ queue) × GivesFull queue place x)
+  full_is x past other place run = (
+    λ is.
+        let by = full_by queue (reads_by route) x.1 other place (sym (looked x past run.answered run.asked).answer ∙ is) in
+        (by.0, posted_full x past run.answered run.asked place by.1),
+    λ is.
+        (looked x past run.answered run.asked).answer ∙ ap (answer_by queue (reads_by route)) is.1.5 ∙ ap (λ k. Some (RefusedFull k place)) (sym is.0),
+  )
+
+-- ---- accesses that ask nothing
+
+local_by : (route : Route) → started_by route ≡ StaysHere → route ≡ Local
+local_by Local is = refl
+local_by (Doorbell number) is = absurd (cc)
+local_by (Command command) is = absurd (cc)
+
+local_where : (gone : Bool) (route : Route) → ((if gone then StaysHere else started_by route) ≡ StaysHere) ↔ ((gone ≡ true) ⊎ (route ≡ Local))
+local_where true route = (λ e. inl refl, λ is. refl)
+local_where false route = (λ e. inr (local_by route e), back)
+  where
+    back : (false ≡ true) ⊎ (route ≡ Local) → started_by route ≡ StaysHere
+    back (inl is) = absurd (cc)
+    back (inr is) = ap started_by is
+
+pub local : (known : Known) (route : Route) → (started known route ≡ StaysHere) ↔ ((known.gone ≡ true) ⊎ (route ≡ Local))
+local known route = local_where known.gone route

@@ -5,3 +5,4 @@ mod Causes
 mod HeardLaws
 mod BringRunGrammar
 mod BroughtLaws
+mod Opcodes

@@ -27,7 +27,7 @@ completion _ = None
 
 -- ---- whether the group, or the member, can be used
 
--- the opcodes 0 to 6 stand in the list
+-- the opcodes 0 to 6 stand in the list: its lowest 7 bits are set
 abbrev pub has_opcodes : DoneParts → Bool
 has_opcodes done = le64 0 done.payload % 128 == 127
 

@@ -1,4 +1,6 @@
 use Rattle.vfio_driver.proofs.BroughtLaws.{by_reply, unfit, ready, nothing}
+use Rattle.byte_fields.specs.Places.{le64}
+use Rattle.vfio_driver.proofs.Opcodes.{opcodes}
 use Rattle.vfio_driver.proofs.laws.outcomes_have_their_causes.Goals as goal
 
 pub returns : goal.returns
@@ -7,4 +9,5 @@ returns c = record {
   unfit = λ command told status qualifier bits. unfit command told status qualifier bits;
   ready = λ command told floor. ready command told floor;
   nothing = λ command told. nothing command told;
+  opcodes = λ done. opcodes (le64 0 done.payload);
 }
