@@ -1,10 +1,10 @@
 //! What a word stands for where it must be hex.
-ghost use Rattle.std.specs.Prelude.{◌≡◌, ◌≢◌, ◌≤◌, IfOk, IfErr, OnOk, length, is_some, None, IsSome};
+ghost use Rattle.std.specs.Prelude.{◌≡◌, ◌≢◌, ◌≤◌, IfOk, IfErr, OnOk, length, is_some, true, None, IsSome};
 ghost use Rattle.std.specs.List.{list_all};
 ghost use Rattle.hex.specs.Hex.{is_hex_digit, IsBytes};
 ghost use Rattle.board_text.specs.Hex.{hex_bytes};
 ghost use Rattle.script_words.specs.declared.cause.Fault.TheVariants.{NoMemory};
-ghost use Rattle.script_words.specs.Values.{Gives, GivesAlways, Steps, any_bytes, bytes_in, bytes_of_width as bytes_of_width_of};
+ghost use Rattle.script_words.specs.Values.{Gives, GivesAlways, Steps, is_width as is_width_of, any_bytes, bytes_in, bytes_of_width as bytes_of_width_of};
 
 use crate::cause::{Cause, Fault};
 use crate::values::is_width;
@@ -46,6 +46,7 @@ pub fn bytes(alloc: Global, word: &Word, low: usize, high: usize) -> Result<Byte
 pub fn bytes_of_width(alloc: Global, word: &Word) -> Result<Bytes, Fault>
     ensures value { Gives result (bytes_of_width_of (hex_bytes word.now)) }
     ensures each { IfOk result IsBytes }
+    ensures width { IfOk result (λ bytes. is_width_of (length bytes) ≡ true) }
 {
     let bytes = read_bytes(alloc, word)?;
     if is_width(bytes.as_slice().len() as u64) {
