@@ -93,7 +93,7 @@ def no_words(place):
 
 def help_is_asked_for(place):
     status, output, error = place.run("--help")
-    texts = [b"admin < ", b"alone < ", b"--build", b"docs/formats.md"]
+    texts = [b"step < ", b"admin < ", b"alone < ", b"--build", b"docs/formats.md"]
     return expect(("status 0", status == 0), ("each command", all(it in output for it in texts)), ("no more", error == ""))
 
 
