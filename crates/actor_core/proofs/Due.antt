@@ -18,7 +18,7 @@ use Rattle.actor_core.proofs.Upcoming.{by_ask, upcoming_is, line_comes_first}
 
 -- ---- of the other actors all lines are due
 
-script_lines_now : (s : Whole) (who begun : ℕ) (lines : Lines) → 1 ≤ who → AreBegun s who begun lines → lines_now s who lines ≡ lines_of s who
+pub script_lines_now : (s : Whole) (who begun : ℕ) (lines : Lines) → 1 ≤ who → AreBegun s who begun lines → lines_now s who lines ≡ lines_of s who
 script_lines_now s who begun (OfScript lines) some are = refl
 script_lines_now s who begun (OfBoard next drains) some are = let board : who ≡ 0 = are.0 in absurd (omega arith)
 
