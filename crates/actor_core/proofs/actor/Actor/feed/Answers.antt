@@ -41,3 +41,12 @@ returns-clause-stands c = λ s who performed past stands short.
     (λ guest. ap (λ a. answers_text a.kept.answers.items.items) c.note.ensures ∙ ap (λ x. answers_text x.items.items) c.add_asked-added.ensures.answers ∙ ap answers_text (told.answers ∙ c.note_left.ensures.answers)
     ∙ shown.answers (subst IsGuestNumber (sym (c.hear-ending.ensures.who ∙ stands.performer.who_is)) guest) (noted.short (told.but.short none.0))
     ∙ ap (λ e. answers_text old.kept.answers.items.items ++ ending_text old.number old.outside c.args.told e) c.hear-ending.ensures.ending))
+
+pub returns-clause-goes_on : goal.returns-clause-goes_on
+returns-clause-goes_on c = λ s who performed past stands.
+    let new = c.note.new.self in
+    let ask = c.in-Some.ask in
+    let given = sym c.replace.ensures.value ∙ c.in-Some.is in
+    let performer : new.performer ≡ c.hear-ending.new.self = ap (λ a. a.performer) c.note.ensures ∙ c.note_told.ensures.noted.but.performer ∙ c.note_left.ensures.noted.performer ∙ c.show.ensures.noted.performer in
+    subst (λ o. IsSomeAnd o (λ a. Stands s who (and_asked a c.args.told performed ∷ past) new.performer)) (sym given)
+    (subst (λ (p : Performer). Stands s who (and_asked ask c.args.told performed ∷ past) p) (sym performer) (c.hear-ending.ensures.stands s who performed past stands))
