@@ -18,13 +18,13 @@ use Rattle.serve_machine.specs.declared.stage.Stage.TheVariants.{Popping, Judgin
 use Rattle.serve_machine.specs.Service.{next_ask as service_ask, after as service_after}
 use Rattle.vfio_driver.specs.declared.access.Answer.{Answer}
 use Rattle.vfio_driver.specs.declared.access.Answer.TheVariants.{Data, Written, Ones, RefusedFull, RefusedMemory}
-use Rattle.vfio_driver.specs.declared.access.Open.{Open}
-use Rattle.vfio_driver.specs.declared.access.Open.TheVariants.{Nothing, Ringing, Posting, Taking}
+use Rattle.vfio_driver.specs.declared.access.Stage.{Stage as AccessStage}
+use Rattle.vfio_driver.specs.declared.access.Stage.TheVariants.{Nothing, Ringing, Posting, Taking}
 use Rattle.vfio_driver.specs.declared.access.Known.{Known}
-use Rattle.vfio_driver.specs.declared.access.Turned.{Turned}
-use Rattle.vfio_driver.specs.Access.{is_open, next_ask, ended, lost, ringing, posting, completed, taking, turned}
-use Rattle.alone_run.specs.Lines.{outside_words}
-use Rattle.alone_run.specs.Transcript.{numbered}
+use Rattle.vfio_driver.specs.declared.access.After.{After}
+use Rattle.vfio_driver.specs.Access.{is_open, next_ask, ended, lost, after_notify as ringing, after_post as posting, after_done as completed, after_take as taking, after as turned}
+use Rattle.guest_lines.specs.Lines.{outside_words}
+use Rattle.guest_lines.specs.Earlier.{numbered}
 use Rattle.board_script.specs.declared.script.What.{What}
 use Rattle.board_script.specs.Script.{Whole}
 use Rattle.journal.specs.Doing.{Doing, asks, accesses, brings, serves, empties, hosts, steps, done, own_ask, raised, after, service_meanwhile}
@@ -39,7 +39,7 @@ use Rattle.actor_core.proofs.Drivers.{either, by_answer, goes_on, tried_again}
 
 -- ---- an access without an answer is open
 
-abbrev IsOpenStill : Turned → Type 0
+abbrev IsOpenStill : After → Type 0
 IsOpenStill t = is_some t.answer ≡ false → is_open t.stage ≡ true
 
 rung : (known : Known) (at : ℕ) (reply : MemberReply) → IsOpenStill (ringing known (FromMember (record { at = at; reply = reply })))
@@ -76,13 +76,13 @@ takes : (known : Known) (queue seq : ℕ) (reads : Bool) (told : Told) → IsOpe
 takes known queue seq reads (FromQueue placed) none = taken known queue seq reads placed.at placed.reply none
 takes known queue seq reads _ none = refl
 
-pub asked_open : (guest : ℕ) (kept : ℕ → Known) (known : Known) (access : Open) (ask : Ask) → option_map (raised kept) (next_ask guest known access) ≡ Some ask → is_open access ≡ true
+pub asked_open : (guest : ℕ) (kept : ℕ → Known) (known : Known) (access : AccessStage) (ask : Ask) → option_map (raised kept) (next_ask guest known access) ≡ Some ask → is_open access ≡ true
 asked_open guest kept known Nothing ask asked = absurd (cc)
 asked_open guest kept known (Ringing number) ask asked = refl
 asked_open guest kept known (Posting queue bytes writable reads) ask asked = refl
 asked_open guest kept known (Taking queue seq reads) ask asked = refl
 
-pub unanswered_open : (known : Known) (access : Open) (told : Told) → is_open access ≡ true → is_some (turned known access told).answer ≡ false → is_open (turned known access told).stage ≡ true
+pub unanswered_open : (known : Known) (access : AccessStage) (told : Told) → is_open access ≡ true → is_some (turned known access told).answer ≡ false → is_open (turned known access told).stage ≡ true
 unanswered_open known Nothing told was none = absurd (cc)
 unanswered_open known (Ringing number) told was none = rings known told none
 unanswered_open known (Posting queue bytes writable reads) told was none = posts known queue reads told none
@@ -90,7 +90,7 @@ unanswered_open known (Taking queue seq reads) told was none = takes known queue
 
 -- ---- an open access asks
 
-open_asks : (guest queue : ℕ) (kept : ℕ → Known) (known : Known) (service : Stage) (access : Open) → is_open access ≡ true → is_none (option_map (raised kept) (or_else (service_ask queue service) (next_ask guest known access))) ≡ false
+open_asks : (guest queue : ℕ) (kept : ℕ → Known) (known : Known) (service : Stage) (access : AccessStage) → is_open access ≡ true → is_none (option_map (raised kept) (or_else (service_ask queue service) (next_ask guest known access))) ≡ false
 open_asks guest queue kept known Popping access opened = refl
 open_asks guest queue kept known (Judging command bytes) access opened = refl
 open_asks guest queue kept known (Acting command to call) access opened = refl
@@ -126,13 +126,13 @@ module _ (s : Whole) (guest number : ℕ) (kind : Kind) (io : Bool) (asked : Wha
   abbrev text_after : Doing → Option Answer → List ℕ
   text_after d answer = text_where (is_none (option_map (raised kept) (own_ask guest later d))) number (words_by kind io asked answer ((ask, told) ∷ earlier))
 
-  answered_shown : (queue : ℕ) (once : Bool) (t : Turned) (answer : Option Answer) → host_words host ≡ outside_words kind io asked → (is_some answer ≡ false → is_open t.stage ≡ true)
+  answered_shown : (queue : ℕ) (once : Bool) (t : After) (answer : Option Answer) → host_words host ≡ outside_words kind io asked → (is_some answer ≡ false → is_open t.stage ≡ true)
       → ending_text number host told (option_map Answered answer) ≡ text_after (by_answer queue once t answer told) answer
   answered_shown queue once t None same opened =
       sym (ap (λ b. text_where b number (words_by kind io asked None ((ask, told) ∷ earlier))) (open_asks guest queue kept later (service_meanwhile told) t.stage (opened refl)))
   answered_shown queue once t (Some answer) same opened = ap (numbered number) (same_answer kind io asked host answer same)
 
-  driver_shown : (queue : ℕ) (once : Bool) (access : Open) (b : Bool) → (is_refused ask told && not once) ≡ b → option_map (raised before) (next_ask guest known access) ≡ Some ask → host_words host ≡ outside_words kind io asked
+  driver_shown : (queue : ℕ) (once : Bool) (access : AccessStage) (b : Bool) → (is_refused ask told && not once) ≡ b → option_map (raised before) (next_ask guest known access) ≡ Some ask → host_words host ≡ outside_words kind io asked
       → ending_text number host told (if b then None else option_map Answered (turned known access told).answer) ≡ text_after (after s known (accesses queue once access Ended) told) (turned known access told).answer
   driver_shown queue once access true is next same =
       let two = both_true (is_refused ask told) (not once) is in
@@ -143,7 +143,7 @@ module _ (s : Whole) (guest number : ℕ) (kind : Kind) (io : Bool) (asked : Wha
       answered_shown queue once t t.answer same (unanswered_open known access told (asked_open guest before known access ask next))
       ∙ ap (λ d. text_after d t.answer) (sym (goes_on s once guest queue before known access ask told next is))
 
-  service_shown : (queue : ℕ) (once : Bool) (access : Open) (service : Stage) → is_open access ≡ true → [] ≡ text_after (accesses queue once access service) None
+  service_shown : (queue : ℕ) (once : Bool) (access : AccessStage) (service : Stage) → is_open access ≡ true → [] ≡ text_after (accesses queue once access service) None
   service_shown queue once access service opened =
       sym (ap (λ b. text_where b number (words_by kind io asked None ((ask, told) ∷ earlier))) (open_asks guest queue kept later service access opened))
 

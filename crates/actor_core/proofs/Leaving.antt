@@ -8,13 +8,13 @@ use Rattle.group_calls.specs.Asks.{Exchange}
 use Rattle.serve_machine.specs.declared.stage.Stage.TheVariants.{Popping, Judging, Acting, Completing, Ended}
 use Rattle.vfio_driver.specs.declared.access.Answer.{Answer}
 use Rattle.vfio_driver.specs.declared.access.Answer.TheVariants.{RefusedFull}
-use Rattle.vfio_driver.specs.declared.access.Open.{Open}
+use Rattle.vfio_driver.specs.declared.access.Stage.{Stage as AccessStage}
 use Rattle.vfio_driver.specs.declared.access.Known.{Known}
-use Rattle.vfio_driver.specs.declared.access.Turned.{Turned}
-use Rattle.vfio_driver.specs.declared.bring_turn.Way.{Way}
-use Rattle.vfio_driver.specs.declared.bring_turn.Way.TheVariants.{Posting, Taking, Over}
-use Rattle.vfio_driver.specs.Access.{turned as access_turned}
-use Rattle.vfio_driver.specs.Bring.{turned as bring_turned}
+use Rattle.vfio_driver.specs.declared.access.After.{After}
+use Rattle.vfio_driver.specs.declared.bring_stage.BringStage.{BringStage}
+use Rattle.vfio_driver.specs.declared.bring_stage.BringStage.TheVariants.{Posting, Taking, Over}
+use Rattle.vfio_driver.specs.Access.{after as access_turned}
+use Rattle.vfio_driver.specs.Bring.{after as bring_turned}
 use Rattle.board_script.specs.declared.script.What.{What}
 use Rattle.board_script.specs.declared.script.What.TheVariants as what
 use Rattle.board_script.specs.Script.{Whole}
@@ -57,16 +57,16 @@ begins_steps s who past (performs line) = what_steps s who past (performs line) 
 begins_steps s who past (empties_line queue) = tt
 begins_steps s who past (finishes member queue) = refl
 
-answered_steps : (line : Line) (queue : ℕ) (once : Bool) (access : Open) (answer : Answer) → IsStepping line (answered queue once access answer)
+answered_steps : (line : Line) (queue : ℕ) (once : Bool) (access : AccessStage) (answer : Answer) → IsStepping line (answered queue once access answer)
 answered_steps line queue true access (RefusedFull full at) = tt
 answered_steps line queue false access (RefusedFull full at) = tt
 answered_steps line queue once access _ = tt
 
-access_steps : (line : Line) (queue : ℕ) (once : Bool) (access stage : Open) (known : Known) (answer : Option Answer) (told : Told) → IsStepping line (access_goes_on queue once access (record { stage = stage; known = known; answer = answer }) told)
+access_steps : (line : Line) (queue : ℕ) (once : Bool) (access stage : AccessStage) (known : Known) (answer : Option Answer) (told : Told) → IsStepping line (access_goes_on queue once access (record { stage = stage; known = known; answer = answer }) told)
 access_steps line queue once access stage known None told = tt
 access_steps line queue once access stage known (Some answer) told = answered_steps line queue once access answer
 
-brings_steps : (line : Line) (member : ℕ) (way : Way) (told : Told) → IsStepping line (bring_goes_on member way told)
+brings_steps : (line : Line) (member : ℕ) (way : BringStage) (told : Told) → IsStepping line (bring_goes_on member way told)
 brings_steps line member (Over brought) told = tt
 brings_steps line member (Posting step) told = tt
 brings_steps line member (Taking step seq) told = tt
@@ -78,7 +78,7 @@ fewer_steps line false member queue left is = is
 after_steps : (s : Whole) (known : Known) (line : Line) (doing : Doing) (told : Told) → IsStepping line doing → IsStepping line (after s known doing told)
 after_steps s known line (asks ask) told is = tt
 after_steps s known line (accesses queue once access Ended) told is =
-    let t : Turned = access_turned known access told in access_steps line queue once access t.stage t.known t.answer told
+    let t : After = access_turned known access told in access_steps line queue once access t.stage t.known t.answer told
 after_steps s known line (accesses queue once access Popping) told is = tt
 after_steps s known line (accesses queue once access (Judging command bytes)) told is = tt
 after_steps s known line (accesses queue once access (Acting command to call)) told is = tt

@@ -9,12 +9,12 @@ use Rattle.group_calls.specs.Asks.{Exchange}
 use Rattle.serve_machine.specs.declared.stage.Stage.TheVariants.{Popping, Judging, Acting, Completing, Ended}
 use Rattle.vfio_driver.specs.declared.access.Answer.{Answer}
 use Rattle.vfio_driver.specs.declared.access.Answer.TheVariants.{RefusedFull}
-use Rattle.vfio_driver.specs.declared.access.Open.{Open}
+use Rattle.vfio_driver.specs.declared.access.Stage.{Stage as AccessStage}
 use Rattle.vfio_driver.specs.declared.access.Known.{Known}
-use Rattle.vfio_driver.specs.declared.access.Turned.{Turned}
-use Rattle.vfio_driver.specs.Access.{turned as access_turned}
-use Rattle.alone_run.specs.Lines.{outside_words}
-use Rattle.alone_run.specs.Transcript.{numbered}
+use Rattle.vfio_driver.specs.declared.access.After.{After}
+use Rattle.vfio_driver.specs.Access.{after as access_turned}
+use Rattle.guest_lines.specs.Lines.{outside_words}
+use Rattle.guest_lines.specs.Earlier.{numbered}
 use Rattle.board_script.specs.Bounds.{MayAsk}
 use Rattle.board_script.specs.declared.script.Setup.{Setup}
 use Rattle.board_script.specs.declared.script.ActorLine.{ActorLine}
@@ -71,12 +71,12 @@ guest_begins s who queues workers guests past (what.Flr member) few may = let ho
 guest_begins s who queues workers guests past (what.Disable member) few may = let host = may.0 in absurd (omega arith)
 guest_begins s who queues workers guests past what.Reset few may = absurd (omega (arith, may))
 
-answered_guests : (queue : ℕ) (once : Bool) (access : Open) (answer : Answer) → is_guests (answered queue once access answer) ≡ true
+answered_guests : (queue : ℕ) (once : Bool) (access : AccessStage) (answer : Answer) → is_guests (answered queue once access answer) ≡ true
 answered_guests queue true access (RefusedFull full at) = refl
 answered_guests queue false access (RefusedFull full at) = refl
 answered_guests queue once access _ = refl
 
-access_guests : (queue : ℕ) (once : Bool) (access stage : Open) (known : Known) (answer : Option Answer) (told : Told) → is_guests (access_goes_on queue once access (record { stage = stage; known = known; answer = answer }) told) ≡ true
+access_guests : (queue : ℕ) (once : Bool) (access stage : AccessStage) (known : Known) (answer : Option Answer) (told : Told) → is_guests (access_goes_on queue once access (record { stage = stage; known = known; answer = answer }) told) ≡ true
 access_guests queue once access stage known None told = refl
 access_guests queue once access stage known (Some answer) told = answered_guests queue once access answer
 
@@ -84,7 +84,7 @@ pub guest_goes_on : (s : Whole) (known : Known) (doing : Doing) (told : Told) �
 guest_goes_on s known (asks ask) told mine = refl
 guest_goes_on s known done told mine = refl
 guest_goes_on s known (accesses queue once access Ended) told mine =
-    let t : Turned = access_turned known access told in access_guests queue once access t.stage t.known t.answer told
+    let t : After = access_turned known access told in access_guests queue once access t.stage t.known t.answer told
 guest_goes_on s known (accesses queue once access Popping) told mine = refl
 guest_goes_on s known (accesses queue once access (Judging command bytes)) told mine = refl
 guest_goes_on s known (accesses queue once access (Acting command to call)) told mine = refl

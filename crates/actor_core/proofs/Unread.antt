@@ -5,9 +5,9 @@ use Rattle.group_calls.specs.declared.ask.Told.{Told}
 use Rattle.serve_machine.specs.declared.stage.Stage.{Stage}
 use Rattle.serve_machine.specs.declared.stage.Stage.TheVariants.{Popping, Judging, Acting, Completing, Ended}
 use Rattle.vfio_driver.specs.declared.access.Known.{Known}
-use Rattle.vfio_driver.specs.declared.bring_turn.Way.{Way}
-use Rattle.vfio_driver.specs.declared.bring_turn.Way.TheVariants.{Posting, Taking, Over}
-use Rattle.vfio_driver.specs.Bring.{turned as bring_turned}
+use Rattle.vfio_driver.specs.declared.bring_stage.BringStage.{BringStage}
+use Rattle.vfio_driver.specs.declared.bring_stage.BringStage.TheVariants.{Posting, Taking, Over}
+use Rattle.vfio_driver.specs.Bring.{after as bring_turned}
 use Rattle.board_script.specs.Script.{Whole}
 use Rattle.journal.specs.Knowing.{knows}
 use Rattle.journal.specs.Doing.{Doing, asks, accesses, brings, serves, empties, hosts, steps, done, own_ask, after, bring_goes_on, ends_steps, service_meanwhile}
@@ -47,7 +47,7 @@ goes_on_alike s one two (steps member queue zero) told none = refl
 goes_on_alike s one two (steps member queue (suc left)) told none = refl
 goes_on_alike s one two done told none = refl
 
-brings_no_access : (member : ℕ) (way : Way) (told : Told) → is_access (bring_goes_on member way told) ≡ false
+brings_no_access : (member : ℕ) (way : BringStage) (told : Told) → is_access (bring_goes_on member way told) ≡ false
 brings_no_access member (Over brought) told = refl
 brings_no_access member (Posting step) told = refl
 brings_no_access member (Taking step seq) told = refl

@@ -1,6 +1,6 @@
 -- What a guest is shown for the lines that have ended. Of this project.
 use Rattle.std.specs.Prelude.{◌≡◌, ℕ, ◌≤◌, Bool, true, false, List, [], ◌∷◌, if◌then◌else◌}
-use Rattle.alone_run.specs.Lines.{outside_words}
+use Rattle.guest_lines.specs.Lines.{outside_words}
 use Rattle.board_script.specs.Script.{Whole}
 use Rattle.journal.specs.Lines.{kind_of, performs}
 use Rattle.journal.specs.Doing.{Doing, asks, accesses, done}

@@ -4,8 +4,8 @@ use Rattle.hex.specs.Hex.{encode_lower}
 use Rattle.group_calls.specs.declared.ask.Told.{Told}
 use Rattle.vfio_driver.specs.declared.access.Answer.{Answer}
 use Rattle.vfio_driver.specs.declared.access.Answer.TheVariants.{Data, Written, Ones, RefusedFull, RefusedMemory}
-use Rattle.alone_run.specs.Lines.{halt_words}
-use Rattle.alone_run.specs.Transcript.{numbered}
+use Rattle.guest_lines.specs.Lines.{halt_words}
+use Rattle.guest_lines.specs.Earlier.{numbered}
 use Rattle.journal.specs.Answers.{full_words, told_words}
 use Rattle.actor_core.specs.declared.items.Shown.{Shown}
 use Rattle.actor_core.specs.declared.items.Shown.TheVariants as shown

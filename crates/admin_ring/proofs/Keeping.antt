@@ -1,23 +1,22 @@
 -- The invariant of the queue after each entry.
-use Rattle.std.proofs.Common.{◌≡◌, ◌≢◌, ℕ, ◌+◌, ◌-◌, ◌/◌, ◌^◌, ◌<◌, ◌≤◌, ◌⊎◌, inl, inr, Bool, true, false, List, [], ◌∷◌, length, Some, None, Option, arith, refl, sym, ap, ◌∙◌, subst}
-use Rattle.std.specs.Prelude.{◌==◌, ◌||◌, nat_lt, nat_le, not, is_some, ◌&&◌, filter, if◌then◌else◌}
+use Rattle.std.proofs.Common.{◌≡◌, ℕ, ◌+◌, ◌/◌, ◌^◌, ◌<◌, ◌≤◌, inl, inr, Bool, true, false, List, ◌∷◌, length, Some, None, Option, arith, refl, sym, ap, ◌∙◌, subst}
+use Rattle.std.specs.Prelude.{◌==◌, nat_lt, nat_le, is_some}
 use Rattle.std.proofs.lemmas.Bool.Decides.{nat_tests}
-use Rattle.std.proofs.lemmas.Bool.{cases_lt, cases_eq}
-use Rattle.std.proofs.lemmas.Grind.{common_steps}
+use Rattle.std.proofs.lemmas.Bool.{cases_lt}
 use Rattle.slab.specs.Slab.{Slab, get, slab_len, Updates}
 use Rattle.group_calls.specs.declared.queue.Tag.{Tag}
-use Rattle.group_calls.specs.declared.queue.RingCall.{RingCall}
 use Rattle.group_calls.specs.declared.queue.RingCall.TheVariants.{Post, Pop, Complete, Take, Reset}
 use Rattle.group_calls.specs.declared.queue.RingReply.{RingReply}
-use Rattle.group_calls.specs.declared.queue.RingReply.TheVariants.{Seq, Fetched, Completed, ResetDone, InService, Empty, NotYet}
+use Rattle.group_calls.specs.declared.queue.RingReply.TheVariants.{Seq, Fetched, Completed, ResetDone}
 use Rattle.history.specs.Kept.{Kept}
-use Rattle.group_calls.specs.Queue.{RingEntry, Posted, posted, is_fetched, completion, is_taken, closed, command, outstanding, IsNumbered, post_answer, pop_answer, take_answer, complete_answer, is_quiet_reply, in_service}
+use Rattle.group_calls.specs.Queue.{RingEntry, Posted, posted, is_fetched, completion, is_taken, is_closed, command, outstanding, post_answer, pop_answer, take_answer, complete_answer, is_quiet_reply}
 use Rattle.group_calls.proofs.Numbers.{earliest_passes, earliest_past, earliest_there}
 use Rattle.group_calls.proofs.Outstanding.{outstanding_post}
 use Rattle.admin_ring.specs.declared.table.Slot.{Slot}
 use Rattle.admin_ring.specs.Finding.{completed}
-use Rattle.admin_ring.specs.Kept.{slot_with, slot_if, slot_of, slot_of_command, Holds, AreCounts, Keeps, owed, fetched_answer, taken_answer}
-use Rattle.admin_ring.proofs.Replies.{slot_seq, found_some, found_none, pop_serving, pop_next, take_from}
+use Rattle.admin_ring.specs.Kept.{slot_with, slot_if, slot_of, slot_of_command, AreCounts, Keeps, owed, fetched_answer, taken_answer}
+use Rattle.group_calls.proofs.Old.{old_closed}
+use Rattle.admin_ring.proofs.Replies.{slot_seq, found_some, open_none, shut_some, AgesAlike, pop_serving, pop_next, take_from}
 use Rattle.admin_ring.proofs.Steps.{holds_after, counts_post, slots_post, slot_post, counts_pop, counts_complete, slots_complete, slot_complete, counts_take, slots_take, slot_take, count_take, counts_reset}
 
 -- a number that wasn't posted is nowhere
@@ -36,7 +35,7 @@ inside_number n f d floors h s x c found = elim (cases_lt s n) [
 
 post_seq : (size n f d : ℕ) (floors : Option (List ℕ)) (h : List RingEntry) (tag : Tag) → AreCounts n f d floors h → floors ≡ None → length (outstanding h) < size / 2 → Seq n ≡ post_answer size h tag
 post_seq size n f d floors h tag c unclosed room =
-    let e : closed h ≡ None = sym c.floors_are ∙ unclosed in
+    let e : is_closed h ≡ false = open_none n f d floors h c unclosed in
     let free : nat_le (size / 2) (length (outstanding h)) ≡ false = grind (arith, nat_tests, room) in
     rw (e, free) (ap Seq c.posts)
 
@@ -60,6 +59,7 @@ kept_post size n f d floors table later log who bytes writable tag key room k un
           (λ x e. cc)
           (λ j x there e. let found : slot_of h n ≡ Some x = found_some (get table) (slot_of h) k.holds n j x there e in cc);
       held = rw (outstanding_post h who bytes writable n tag (k.counts.none_taken n (omega arith))) (let g = k.held in omega arith);
+      size_is = k.size_is;
       fits = let g = k.fits in omega arith;
       legal = (post_seq size n f d floors h tag k.counts unclosed (let g = k.held in omega arith), refl, (few, short), k.legal);
       most = omega (arith, a, b, more, most);
@@ -96,7 +96,7 @@ fetching_by n f d floors h c loud idle next (Some x) e = record {
 
 fetching_at : (n f d : ℕ) (floors : Option (List ℕ)) (h : List RingEntry) → AreCounts n f d floors h → is_quiet_reply (pop_answer h) ≡ false → (g : Option (List ℕ)) → floors ≡ g → IsFetching n f d floors h
 fetching_at n f d floors h c loud (Some told) e =
-    let k : closed h ≡ Some told = sym c.floors_are ∙ e in
+    let k : is_closed h ≡ true = shut_some n f d floors h c told e in
     let no : true ≡ false = simp k at loud in cc
 fetching_at n f d floors h c loud None e = elim (cases_lt d f) [
   | inl busy ↦ let no : true ≡ false = sym (ap is_quiet_reply (pop_serving n f d floors h c e busy)) ∙ loud in cc
@@ -127,6 +127,7 @@ kept_pop size n f d floors table log who room x k few idle near gives wide = rec
     distinct = k.holds.distinct;
   };
   held = k.held;
+  size_is = k.size_is;
   fits = k.fits;
   legal = (sym gives, refl, few, k.legal);
   most = let a = k.most in omega (arith, a);
@@ -163,7 +164,7 @@ serving_there n f d floors h c unclosed busy none =
 
 completes : (n f d : ℕ) (floors : Option (List ℕ)) (h : List RingEntry) → AreCounts n f d floors h → floors ≡ None → d < f → Completed ≡ complete_answer h d
 completes n f d floors h c unclosed busy =
-    let e : closed h ≡ None = sym c.floors_are ∙ unclosed in
+    let e : is_closed h ≡ false = open_none n f d floors h c unclosed in
     let a : is_fetched h d ≡ true = c.fetches d ∙ grind (arith, nat_tests, busy) in
     let b : is_some (completion h d) ≡ false = c.completions d ∙ grind (arith, nat_tests) in
     rw (e, a, b) refl
@@ -186,6 +187,7 @@ kept_complete size n f d floors table later log who room bytes floor key x k unc
           (λ y e. let both : Some x ≡ Some y = sym there ∙ e in let one : x ≡ y = cc in ap (λ (z : Slot). z.seq) (sym one) ∙ seq)
           (λ j y e s. k.holds.distinct j key y x e there (s ∙ sym seq));
       held = alike ∙ k.held;
+      size_is = k.size_is;
       fits = let g = k.fits in omega arith;
       legal = (completes n f d floors h k.counts unclosed busy, refl, few, k.legal);
       most = let g = k.most in omega (arith, a, g, alike);
@@ -222,10 +224,9 @@ done_by x None e loud = let no : true ≡ false = simp e at loud in cc
 done_by x (Some c) e loud = rw e refl
 
 -- what is taken while the queue is open was completed
-taken_done : (n f d : ℕ) (floors : Option (List ℕ)) (h : List RingEntry) (s : ℕ) (x : Slot) → AreCounts n f d floors h → slot_of h s ≡ Some x → is_quiet_reply (take_answer h s) ≡ false → floors ≡ None → s < d
-taken_done n f d floors h s x c found loud unclosed =
-    let e : closed h ≡ None = sym c.floors_are ∙ unclosed in
-    let gives : take_answer h s ≡ taken_answer None (Some x) = take_from h s ∙ ap (λ (g : Option (List ℕ)). taken_answer g (slot_of h s)) e ∙ ap (taken_answer None) found in
+taken_done : (n f d : ℕ) (floors : Option (List ℕ)) (h : List RingEntry) (s : ℕ) (x : Slot) → AreCounts n f d floors h → AgesAlike h → slot_of h s ≡ Some x → is_quiet_reply (take_answer h s) ≡ false → floors ≡ None → s < d
+taken_done n f d floors h s x c ages found loud unclosed =
+    let gives : take_answer h s ≡ taken_answer None (Some x) = take_from n f d floors h s c ages ∙ ap (λ (g : Option (List ℕ)). taken_answer g (slot_of h s)) unclosed ∙ ap (taken_answer None) found in
     let done = done_by x x.completion refl (ap is_quiet_reply (sym gives) ∙ loud) in
     let at : nat_lt s d ≡ true = sym (c.completions s) ∙ ap is_some (sym (completion_by h s x found (command h s) refl)) ∙ done in
     grind (arith, nat_tests, at)
@@ -238,7 +239,7 @@ kept_take size n f d floors table later log who room s key x reply k few is loud
     let h : List RingEntry = log.entries in
     let found : slot_of h s ≡ Some x = found_some (get table) (slot_of h) k.holds s key x there seq in
     record {
-      counts = counts_take n f d floors h who s reply k.counts (inside_number n f d floors h s x k.counts found) (taken_done n f d floors h s x k.counts found (ap is_quiet_reply (sym is) ∙ loud));
+      counts = counts_take n f d floors h who s reply k.counts (inside_number n f d floors h s x k.counts found) (taken_done n f d floors h s x k.counts (old_closed size h k.legal) found (ap is_quiet_reply (sym is) ∙ loud));
       holds = holds_after (get table) (get later) (slot_of h) (slot_of (record { who = who; call = Take s; reply = reply } ∷ h)) key s
           None k.holds (slot_seq h) up.changed up.others (slot_take h who s reply)
           (λ r other. slots_take h who s reply r other)
@@ -246,6 +247,7 @@ kept_take size n f d floors table later log who room s key x reply k few is loud
           (λ y e. let both : Some x ≡ Some y = sym there ∙ e in let one : x ≡ y = cc in ap (λ (z : Slot). z.seq) (sym one) ∙ seq)
           (λ j y e q. k.holds.distinct j key y x e there (q ∙ sym seq));
       held = let a = count_take n f d floors h who s reply x k.counts found in let g = k.held in omega (arith, a, g, less);
+      size_is = k.size_is;
       fits = let g = k.fits in omega arith;
       legal = (is, loud, few, k.legal);
       most = let g = k.most in omega (arith, g, less);
@@ -261,8 +263,12 @@ keeps_take size n f d floors table later log log_later who s key x reply k few i
     subst (λ (es : List RingEntry). Keeps size n f d floors later (record { entries = es; room = log_later.room })) (sym e)
     (kept_take size n f d floors table later log who log_later.room s key x reply k few is loud there seq up less same wide)
 
-pub take_none : (h : List RingEntry) (s : ℕ) → slot_of h s ≡ None → is_quiet_reply (take_answer h s) ≡ true
-take_none h s none = ap is_quiet_reply (take_from h s ∙ ap (taken_answer (closed h)) none)
+-- what a Take is answered, from what is kept
+pub take_kept : (size n f d : ℕ) (floors : Option (List ℕ)) (table : Slab Slot) (log : Kept RingEntry) (s : ℕ) → Keeps size n f d floors table log → take_answer log.entries s ≡ taken_answer floors (slot_of log.entries s)
+take_kept size n f d floors table log s k = take_from n f d floors log.entries s k.counts (old_closed size log.entries k.legal)
+
+pub take_none : (size n f d : ℕ) (floors : Option (List ℕ)) (table : Slab Slot) (log : Kept RingEntry) (s : ℕ) → Keeps size n f d floors table log → slot_of log.entries s ≡ None → is_quiet_reply (take_answer log.entries s) ≡ true
+take_none size n f d floors table log s k none = ap is_quiet_reply (take_kept size n f d floors table log s k ∙ ap (taken_answer floors) none)
 
 -- Reset
 
@@ -278,6 +284,7 @@ kept_reset size n f d floors table log who room told k few fits most = record {
     distinct = k.holds.distinct;
   };
   held = k.held;
+  size_is = k.size_is;
   fits = k.fits;
   legal = (refl, refl, few, k.legal);
   most = omega (arith, most);

@@ -1,22 +1,19 @@
 -- What is kept after one entry more.
-use Rattle.std.proofs.Common.{◌≡◌, ◌≢◌, ℕ, ◌+◌, ◌-◌, ◌<◌, ◌≤◌, ◌⊎◌, inl, inr, Bool, true, false, List, [], ◌∷◌, length, Some, None, Option, arith, refl, sym, ap, ◌∙◌, subst}
-use Rattle.std.specs.Prelude.{◌==◌, ◌||◌, nat_lt, nat_le, not, is_some, ◌&&◌, filter, if◌then◌else◌}
+use Rattle.std.proofs.Common.{◌≡◌, ◌≢◌, ℕ, ◌+◌, ◌<◌, ◌≤◌, inl, inr, Bool, true, false, List, ◌∷◌, length, Some, None, Option, arith, refl, sym, ap, ◌∙◌, subst}
+use Rattle.std.specs.Prelude.{◌==◌, nat_lt, is_some, if◌then◌else◌}
 use Rattle.std.proofs.lemmas.Bool.Decides.{nat_tests}
-use Rattle.std.proofs.lemmas.Bool.{cases_lt, cases_eq}
-use Rattle.std.proofs.lemmas.Grind.{common_steps}
+use Rattle.std.proofs.lemmas.Bool.{cases_eq}
 use Rattle.group_calls.specs.declared.queue.Tag.{Tag}
-use Rattle.group_calls.specs.declared.queue.RingCall.{RingCall}
 use Rattle.group_calls.specs.declared.queue.RingCall.TheVariants.{Post, Pop, Complete, Take, Reset}
 use Rattle.group_calls.specs.declared.queue.RingReply.{RingReply}
 use Rattle.group_calls.specs.declared.queue.RingReply.TheVariants.{Seq, Fetched, Completed, ResetDone}
 use Rattle.history.specs.Look.{or_else}
-use Rattle.group_calls.specs.Queue.{RingEntry, Posted, posted, is_fetched, completion, is_taken, closed, command, earliest, outstanding, is_outstanding, IsNumbered}
+use Rattle.group_calls.specs.Queue.{RingEntry, Posted, posted, completion, is_taken, command, outstanding, is_outstanding}
 use Rattle.group_calls.proofs.Numbers.{earliest_passes, earliest_past, one_less}
-use Rattle.group_calls.proofs.Outstanding.{outstanding_take, outstanding_post}
+use Rattle.group_calls.proofs.Outstanding.{outstanding_take}
 use Rattle.admin_ring.specs.declared.table.Slot.{Slot}
 use Rattle.admin_ring.specs.Finding.{completed}
 use Rattle.admin_ring.specs.Kept.{slot_with, slot_if, slot_of, slot_of_command, Holds, AreCounts}
-use Rattle.admin_ring.proofs.Replies.{slot_seq}
 
 -- the table after a change at one key, which changes what one number has
 pub holds_after : (at now of of_now : ℕ → Option Slot) (key s : ℕ) (o : Option Slot) → Holds at of
@@ -79,7 +76,8 @@ counts_post n f d floors h who bytes writable tag c = record {
   completed_first = c.completed_first;
   one_in_service = c.one_in_service;
   fetched_first = let a = c.fetched_first in omega arith;
-  floors_are = c.floors_are;
+  shut = c.shut;
+  told = c.told;
   none_taken = λ s far. c.none_taken s (omega arith);
   none_lost = λ e s far. c.none_lost e s far;
   few = let a = c.few in omega arith;
@@ -117,7 +115,8 @@ counts_pop n f d floors h who bytes writable tag c idle near = record {
   completed_first = let a = c.completed_first in omega arith;
   one_in_service = let a = c.one_in_service in omega arith;
   fetched_first = omega arith;
-  floors_are = c.floors_are;
+  shut = c.shut;
+  told = c.told;
   none_taken = λ s far. c.none_taken s far;
   none_lost = λ e s far. c.none_lost e s far;
   few = let a = c.few in omega arith;
@@ -139,7 +138,8 @@ counts_complete n f d floors h who bytes floor c busy = record {
   completed_first = omega arith;
   one_in_service = let a = c.one_in_service in omega arith;
   fetched_first = c.fetched_first;
-  floors_are = c.floors_are;
+  shut = c.shut;
+  told = c.told;
   none_taken = λ s far. c.none_taken s far;
   none_lost = λ e s far. c.none_lost e s (omega arith);
   few = let a = c.few in omega arith;
@@ -183,7 +183,8 @@ counts_take n f d floors h who s reply c near past = record {
   completed_first = c.completed_first;
   one_in_service = c.one_in_service;
   fetched_first = c.fetched_first;
-  floors_are = c.floors_are;
+  shut = c.shut;
+  told = c.told;
   none_taken = λ t far. let e : (s == t) ≡ false = grind (arith, nat_tests, near, far) in rw e (c.none_taken t far);
   none_lost = λ k t far. let m = past k in let e : (s == t) ≡ false = grind (arith, nat_tests, m, far) in rw e (c.none_lost k t far);
   few = let a = c.few in omega arith;
@@ -231,7 +232,8 @@ counts_reset n f d floors h who told c = record {
   completed_first = c.completed_first;
   one_in_service = c.one_in_service;
   fetched_first = c.fetched_first;
-  floors_are = refl;
+  shut = refl;
+  told = refl;
   none_taken = λ t far. c.none_taken t far;
   none_lost = λ k t far. cc;
   few = let a = c.few in omega arith;

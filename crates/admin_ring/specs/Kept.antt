@@ -1,5 +1,5 @@
--- What the queue keeps, as equations over its history. Of this project.
-use Rattle.std.specs.Prelude.{◌≡◌, ◌≢◌, ℕ, ◌+◌, ◌-◌, ◌≤◌, ◌^◌, ◌/◌, nat_lt, Bool, true, false, List, [], ◌∷◌, length, Option, Some, None, is_some, if◌then◌else◌}
+-- What the queue keeps, as equations over its history. The code's own.
+use Rattle.std.specs.Prelude.{◌≡◌, ℕ, ◌+◌, ◌-◌, ◌≤◌, ◌/◌, nat_lt, false, List, [], length, Option, Some, None, is_some, unwrap_or, if◌then◌else◌}
 use Rattle.slab.specs.Slab.{Slab, get, slab_len}
 use Rattle.history.specs.Legal.{IsLegal}
 use Rattle.history.specs.Kept.{Kept}
@@ -8,7 +8,7 @@ use Rattle.std.specs.Prelude.{take}
 use Rattle.board_text.specs.Floors.{number_for}
 use Rattle.group_calls.specs.declared.queue.RingReply.{RingReply}
 use Rattle.group_calls.specs.declared.queue.RingReply.TheVariants.{Stale, Ready, Lost, NotYet, Empty, Fetched}
-use Rattle.group_calls.specs.Queue.{RingEntry, Posted, posted, is_fetched, completion, is_taken, closed, outstanding, command, IsNumbered, queue_answer, queue_may, is_quiet_reply}
+use Rattle.group_calls.specs.Queue.{RingEntry, Posted, posted, is_fetched, completion, is_taken, is_closed, latest_floors, outstanding, command, IsNumbered, IsQueueSize, queue_answer, queue_may, is_quiet_reply}
 use Rattle.admin_ring.specs.declared.table.Slot.{Slot}
 
 abbrev pub slot_with : List RingEntry → Posted → Slot
@@ -50,7 +50,8 @@ pub record AreCounts (n f d : ℕ) (floors : Option (List ℕ)) (h : List RingEn
   pub completed_first : d ≤ f
   pub one_in_service : f ≤ d + 1
   pub fetched_first : f ≤ n
-  pub floors_are : floors ≡ closed h
+  pub shut : is_closed h ≡ is_some floors
+  pub told : latest_floors h ≡ unwrap_or floors []
   pub none_taken : (s : ℕ) → n ≤ s → is_taken h s ≡ false
   pub none_lost : floors ≡ None → (s : ℕ) → d ≤ s → is_taken h s ≡ false
   pub few : n ≤ length h
@@ -63,6 +64,7 @@ pub record Keeps (size n f d : ℕ) (floors : Option (List ℕ)) (table : Slab S
   pub counts : AreCounts n f d floors log.entries
   pub holds : Holds (get table) (slot_of log.entries)
   pub held : slab_len table ≡ length (outstanding log.entries)
+  pub size_is : IsQueueSize size
   pub fits : size / 2 ≤ table.capacity
   pub legal : IsLegal (queue_answer size) is_quiet_reply (queue_may size) log.entries
   pub most : length log.entries + owed n f d (slab_len table) ≤ history_limit

@@ -7,6 +7,7 @@
 //! the later Pop, Complete and Take of its command need, so these never want any. No call walks the history.
 #![tactic(auto)]
 
+pub mod laws;
 mod ring;
 mod table;
 

@@ -3,8 +3,9 @@ ghost use Rattle.std.specs.Prelude.{◌≡◌, ◌≤◌, ◌<◌, ◌^◌, ◌+
 ghost use Rattle.group_calls.specs.declared.queue.RingCall.{RingCall};
 ghost use Rattle.group_calls.specs.declared.queue.RingCall.TheVariants.{Post, Pop, Complete, Take, Reset};
 ghost use Rattle.history.specs.Legal.{IsAnswered};
-ghost use Rattle.history.specs.Limits.{history_limit};
-ghost use Rattle.group_calls.specs.Queue.{pop_answer, take_answer, queue_answer, queue_may, queue_spares, is_quiet_reply};
+ghost use Rattle.history.specs.Limits.{history_limit, actor_limit};
+ghost use Rattle.group_calls.specs.Limits.{writable_limit};
+ghost use Rattle.group_calls.specs.Queue.{IsQueueSize, pop_answer, take_answer, queue_answer, queue_may, queue_spares, is_quiet_reply};
 ghost use Rattle.std.specs.Prelude.{option_copied, Some};
 ghost use Rattle.admin_ring.specs.Kept.{slot_of, taken_answer, fetched_answer, owed};
 ghost use Rattle.slab.specs.Slab.{slab_len};
@@ -95,6 +96,7 @@ impl AdminRing {
     /// A queue of this many entries, a power of two from 4 to 256, without history. It takes the memory for as many
     /// commands as may be outstanding: half as many.
     pub fn new(alloc: Global, size: u16) -> Result<AdminRing, NoMemory>
+        requires { IsQueueSize size }
         ensures made { IfOk result (λ ring. ring.made ≡ size) }
         ensures empty { IfOk result (λ ring. ring.history ≡ []) }
     {
@@ -154,8 +156,8 @@ impl AdminRing {
         writable: u32,
         tag: Tag,
     ) -> Result<Placed<RingReply>, NoMemory>
-        requires who { who < 26 }
-        requires writable { writable ≤ 256 }
+        requires who { who < actor_limit }
+        requires writable { writable ≤ writable_limit }
         ensures answered { IfOk result (IsAnswered (queue_answer self.old.made) is_quiet_reply self.old.history self.new.history who (Post bytes.now writable tag)) }
         ensures quiet { IfOk result (λ placed. is_quiet_reply placed.reply ≡ true → self.new ≡ self.old) }
         ensures made { self.new.made ≡ self.old.made }
@@ -201,7 +203,7 @@ impl AdminRing {
     }
 
     fn pop(&mut self, who: u32) -> Placed<RingReply>
-        requires { who < 26 }
+        requires { who < actor_limit }
         ensures answered { IsAnswered (queue_answer self.old.made) is_quiet_reply self.old.history self.new.history who Pop result }
         ensures quiet { is_quiet_reply result.reply ≡ true → self.new ≡ self.old }
         ensures made { self.new.made ≡ self.old.made }
@@ -222,7 +224,7 @@ impl AdminRing {
     }
 
     fn complete(&mut self, who: u32, seq: u64, bytes: &Piece, floor: u64) -> Placed<RingReply>
-        requires { who < 26 }
+        requires { who < actor_limit }
         ensures answered { IsAnswered (queue_answer self.old.made) is_quiet_reply self.old.history self.new.history who (Complete seq bytes.now floor) result }
         ensures quiet { is_quiet_reply result.reply ≡ true → self.new ≡ self.old }
         ensures made { self.new.made ≡ self.old.made }
@@ -260,7 +262,7 @@ impl AdminRing {
     }
 
     fn take(&mut self, who: u32, seq: u64) -> Placed<RingReply>
-        requires { who < 26 }
+        requires { who < actor_limit }
         ensures answered { IsAnswered (queue_answer self.old.made) is_quiet_reply self.old.history self.new.history who (Take seq) result }
         ensures quiet { is_quiet_reply result.reply ≡ true → self.new ≡ self.old }
         ensures made { self.new.made ≡ self.old.made }
@@ -284,7 +286,7 @@ impl AdminRing {
     }
 
     fn reset(&mut self, who: u32, floors: &Floors) -> Result<Placed<RingReply>, NoMemory>
-        requires { who < 26 }
+        requires { who < actor_limit }
         ensures answered { IfOk result (IsAnswered (queue_answer self.old.made) is_quiet_reply self.old.history self.new.history who (Reset floors.now)) }
         ensures quiet { IfOk result (λ placed. is_quiet_reply placed.reply ≡ true → self.new ≡ self.old) }
         ensures made { self.new.made ≡ self.old.made }

@@ -6,7 +6,7 @@ use Rattle.board_text.specs.Line.{lines_of}
 use Rattle.script_words.specs.declared.cause.Cause.{Cause}
 use Rattle.script_words.specs.declared.cause.Cause.TheVariants as cause
 use Rattle.script_words.specs.Words.{words_of, are_words, one_of, two_of}
-use Rattle.script_words.specs.Shape.{form}
+use Rattle.script_words.specs.Parts.{form}
 use Rattle.script_words.specs.Texts.{At, and_then, is_ignored}
 use Rattle.script_words.specs.Values.{◌>>=◌, number_in, bytes_in}
 use Rattle.admin_script.specs.declared.line.AdminLine.{AdminLine}

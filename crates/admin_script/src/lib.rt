@@ -14,4 +14,4 @@ mod text;
 pub use line::AdminLine;
 pub use read::read_admin;
 pub use script_words::{Cause, ScriptFault};
-pub use text::AdminText;
+pub use text::{AdminText, texts_cross_threads};

@@ -9,6 +9,14 @@ use crate::line::{AdminLine, begins};
 use std::alloc::{AllocError as NoMemory, Global};
 use std::marker::Model;
 
+fn crosses<T: Send + Sync>() {}
+
+/// The input of `admin` may be sent to a thread, and shared by threads.
+pub fn texts_cross_threads() {
+    crosses::<AdminText>();
+    crosses::<AdminLine>();
+}
+
 /// The input of `admin`: one item for each line that isn't ignored, in the order of the text.
 #[derive(Debug, Drop)]
 pub struct AdminText {

@@ -27,7 +27,8 @@ padded bytes n is i lt =
           ∙ sym (get_or_past bytes i 0 (omega arith))
     ]
 
-same_field : (n place : ℕ) (bytes header : List ℕ) → IsHeaderOf bytes header → place + n ≤ 32 → number_at n place header ≡ number_at n place bytes
+-- a number in the header is the one in the bytes
+pub same_field : (n place : ℕ) (bytes header : List ℕ) → IsHeaderOf bytes header → place + n ≤ 32 → number_at n place header ≡ number_at n place bytes
 unfolding number_at
 same_field n place bytes header h fits = same_numbers n place place header bytes (λ k below. h (place + k) (omega arith))
 

@@ -106,6 +106,13 @@ qualifier_again status qualifier rest small =
     let place : 2 ≡ length (bytes_of 2 status) + 0 = omega (arith, length-bytes_of 2 status) in
     simp append_assoc (number_at-append 2 0 2 (bytes_of 2 status) _ place ∙ number_at-bytes_of 2 qualifier _ small)
 
+-- the status, wherever it was written
+pub status_back : (status qualifier : ℕ) (payload : List ℕ) (writable : ℕ) → status < 2 ^ 16 → 2 ≤ length (done_of status qualifier payload writable) → number_at 2 0 (done_of status qualifier payload writable) ≡ status
+status_back status qualifier payload writable small room =
+    let whole = front_of status qualifier ++ result_with status payload in
+    let size = length-take writable whole in
+    in_front 2 0 writable whole (omega arith) ∙ status_again status qualifier (result_with status payload) small
+
 -- what stands behind 8 bytes, in as many bytes as there is room for
 rest_again : (front rest : List ℕ) (room : ℕ) → length front ≡ 8 → drop 8 (take room (front ++ rest)) ≡ take (room - 8) rest
 rest_again front rest room size =

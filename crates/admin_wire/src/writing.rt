@@ -1,12 +1,13 @@
 //! Commands as a driver writes them.
 ghost use Rattle.std.specs.Prelude.{◌≡◌, ◌+◌, ◌≤◌, ℕ, length};
+ghost use Rattle.admin_wire.specs.Numbers.{fixed_size, data_limit, result_limit, wire_limit};
 ghost use Rattle.admin_wire.specs.Command.{command_of};
 ghost use Rattle.admin_wire.specs.Writing.{fixed_part, opcode_for, bytes_written, result_length, query_bytes, use_bytes, legacy_bytes, query_command, use_command, legacy_command};
 
 use crate::command::LegacyCmd;
 use crate::numbers::{
-    LEGACY_COMMON_CFG_READ, LEGACY_COMMON_CFG_WRITE, LEGACY_DEV_CFG_READ, LEGACY_DEV_CFG_WRITE,
-    LEGACY_NOTIFY_INFO, LIST_QUERY, LIST_USE, SR_IOV,
+    FIXED_SIZE, INFO_SIZE, LEGACY_COMMON_CFG_READ, LEGACY_COMMON_CFG_WRITE, LEGACY_DEV_CFG_READ,
+    LEGACY_DEV_CFG_WRITE, LEGACY_NOTIFY_INFO, LIST_QUERY, LIST_USE, SR_IOV,
 };
 use board_text::Piece;
 use byteorder::{ByteOrder, LittleEndian};
@@ -56,9 +57,9 @@ pub fn write_use(bits: u64) -> Piece
 /// An access to the registers of a member. A write has at most 224 bytes of data. With as many writable
 /// bytes as `writable_for` says it is read again as the same access.
 pub fn write_legacy(member: u64, command: &LegacyCmd) -> Piece
-    requires { length (bytes_written command.now) ≤ 224 }
+    requires { length (bytes_written command.now) ≤ data_limit }
     ensures bytes { result ≡ legacy_bytes member command.now }
-    ensures read_again { command_of result (8 + result_length command.now) ≡ legacy_command member command.now }
+    ensures read_again { command_of result (fixed_size + result_length command.now) ≡ legacy_command member command.now }
 {
     let mut bytes = write_fixed_part(opcode_of(command), member);
     match command {
@@ -84,13 +85,14 @@ pub fn write_legacy(member: u64, command: &LegacyCmd) -> Piece
 /// How many bytes the completion of an access may have: the fixed 8, and those of its result. A read is
 /// of at most 248 bytes.
 pub fn writable_for(command: &LegacyCmd) -> u32
-    requires { result_length command.now ≤ 248 }
-    ensures value { result ≡ 8 + result_length command.now }
-    ensures fits { result ≤ 256 }
+    requires { result_length command.now ≤ result_limit }
+    ensures value { result ≡ fixed_size + result_length command.now }
+    ensures fits { result ≤ wire_limit }
 {
-    match command {
-        LegacyCmd::CommonWrite { .. } | LegacyCmd::DevWrite { .. } => 8,
-        LegacyCmd::CommonRead { length, .. } | LegacyCmd::DevRead { length, .. } => 8 + *length,
-        LegacyCmd::Info => 72,
-    }
+    let count = match command {
+        LegacyCmd::CommonWrite { .. } | LegacyCmd::DevWrite { .. } => 0,
+        LegacyCmd::CommonRead { length, .. } | LegacyCmd::DevRead { length, .. } => *length,
+        LegacyCmd::Info => INFO_SIZE as u32,
+    };
+    FIXED_SIZE as u32 + count
 }

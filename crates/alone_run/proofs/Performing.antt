@@ -25,8 +25,9 @@ use Rattle.board_script.specs.declared.script.Setup.{Setup}
 use Rattle.board_script.specs.declared.script.What.{What}
 use Rattle.board_script.specs.declared.script.What.TheVariants as what
 use Rattle.alone_run.specs.declared.guest.Guest.{Guest}
-use Rattle.alone_run.specs.Lines.{event_of, lone_words, answer_words}
-use Rattle.alone_run.specs.Transcript.{has_io, with_event, events, answer_to, numbered, shown, transcript, made_for, alone_part, alone_text}
+use Rattle.guest_lines.specs.Lines.{event_of, lone_words, answer_words}
+use Rattle.alone_run.specs.Transcript.{with_event, events, answer_to, shown, transcript, made_for, alone_part, alone_text}
+use Rattle.guest_lines.specs.Earlier.{has_io, numbered}
 use Rattle.alone_run.specs.Kept.{Stands, call_of, told_words, words_for, io_after, Asks, PerformsCall, Performs, shown_for, Shows, SoFar}
 
 -- ---- I/O

@@ -14,8 +14,10 @@ use Rattle.board_script.specs.declared.script.What.{What}
 use Rattle.board_script.specs.declared.script.What.TheVariants as what
 use Rattle.script_words.specs.Values.{is_width}
 use Rattle.alone_run.specs.declared.guest.Guest.{Guest}
-use Rattle.alone_run.specs.Lines.{reply_words, lone_words, outside_words, event_of}
-use Rattle.alone_run.specs.Transcript.{has_io, events, numbered, transcript}
+use Rattle.guest_lines.specs.Lines.{reply_words, lone_words, outside_words, event_of}
+use Rattle.guest_lines.specs.Widths.{HasWidth}
+use Rattle.alone_run.specs.Transcript.{events, transcript}
+use Rattle.guest_lines.specs.Earlier.{has_io, numbered}
 
 -- the guest stands behind these lines
 pub record Stands (made : MemberMade) (g : Guest) (earlier : List ActorLine) : Type 0 where
@@ -29,13 +31,6 @@ pub record Stands (made : MemberMade) (g : Guest) (earlier : List ActorLine) : T
 abbrev pub call_of : Bool → Option LoneEvent → Option MemberCall
 call_of msix None = None
 call_of msix (Some event) = Some (access_of (common_size msix) event)
-
--- an access has 1, 2 or 4 bytes
-abbrev pub HasWidth : What → Type 0
-HasWidth (what.BarRead offset count queue once) = is_width count ≡ true
-HasWidth (what.BarWrite offset bytes queue once) = is_width (length bytes) ≡ true
-HasWidth (what.Cfg offset count) = is_width count ≡ true
-HasWidth _ = Unit {0}
 
 -- the words for a member's reply to a line
 abbrev pub told_words : What → MemberReply → List ℕ

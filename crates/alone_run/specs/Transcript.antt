@@ -1,7 +1,5 @@
 -- What a guest that is alone is shown: the answers of a lone device (VIRTIO 1.3, 4.1.4.10, legacy interfaces) to the lines of its script in the order of the text. The printed form is of this project.
 use Rattle.std.specs.Prelude.{ℕ, ◌==◌, Bool, true, List, [], ◌∷◌, ◌++◌, Option, None, Some, option_map, codes, if◌then◌else◌}
-use Rattle.std.specs.Fmt.{decimal}
-use Rattle.history.specs.Look.{latest_or}
 use Rattle.group_calls.specs.declared.member.MemberMade.{MemberMade}
 use Rattle.group_calls.specs.declared.lone.LoneEvent.{LoneEvent}
 use Rattle.group_calls.specs.declared.lone.LoneReply.{LoneReply}
@@ -9,18 +7,11 @@ use Rattle.group_calls.specs.declared.lone.LoneItem.{LoneItem}
 use Rattle.group_calls.specs.Lone.{lone_reply}
 use Rattle.board_script.specs.declared.script.Setup.{Setup}
 use Rattle.board_script.specs.declared.script.ActorLine.{ActorLine}
-use Rattle.board_script.specs.declared.script.What.TheVariants.{Io}
 use Rattle.board_script.specs.Script.{Whole}
-use Rattle.alone_run.specs.Lines.{event_of, answer_words}
+use Rattle.guest_lines.specs.Earlier.{has_io, numbered}
+use Rattle.guest_lines.specs.Lines.{event_of, answer_words}
 
--- ---- what earlier lines left, the latest line first
-
--- I/O is enabled at first, and then as the latest line says
-abbrev pub io_set : ActorLine → Option Bool
-io_set line = elim line.what [ Io on ↦ Some on | _ ↦ None ]
-
-abbrev pub has_io : List ActorLine → Bool
-has_io earlier = latest_or true io_set earlier
+-- ---- the device behind the earlier lines, the latest first
 
 abbrev pub with_event : MemberMade → Option LoneEvent → List LoneItem → List LoneItem
 with_event made None items = items
@@ -39,10 +30,6 @@ reply_to made earlier line = option_map (lone_reply made (events made earlier)) 
 
 abbrev pub answer_to : MemberMade → List ActorLine → ActorLine → List ℕ
 answer_to made earlier line = answer_words made.kind (has_io earlier) line.what (reply_to made earlier line)
-
--- the number of the line in its text, and the answer
-abbrev pub numbered : ℕ → List ℕ → List ℕ
-numbered number words = decimal number ++ codes " " ++ words ++ 10 ∷ []
 
 -- the guest is shown the answers to its own lines; it is the actor 1
 abbrev pub shown : MemberMade → List ActorLine → ActorLine → List ℕ

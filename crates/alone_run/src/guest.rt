@@ -4,9 +4,10 @@ ghost use Rattle.group_calls.specs.declared.member.MemberMade.{MemberMade};
 ghost use Rattle.group_calls.specs.Member.{IsMemberMade, member_answer};
 ghost use Rattle.group_calls.specs.MemberEntries.{MemberEntry, is_done as is_done_of};
 ghost use Rattle.group_calls.specs.MemberRegisters.{is_msix};
-ghost use Rattle.alone_run.specs.Lines.{event_of};
+ghost use Rattle.guest_lines.specs.Lines.{event_of};
 ghost use Rattle.alone_run.specs.Transcript.{shown, made_for};
-ghost use Rattle.alone_run.specs.Kept.{Stands, HasWidth, Asked, Shows, shown_for};
+ghost use Rattle.alone_run.specs.Kept.{Stands, Asked, Shows, shown_for};
+ghost use Rattle.guest_lines.specs.Widths.{HasWidth};
 ghost use Rattle.board_script.specs.Bounds.{IsSetup};
 
 use crate::words::push_words;

@@ -2,8 +2,9 @@
 ghost use Rattle.std.specs.Prelude.{◌≡◌, IfOk, None, length, true};
 ghost use Rattle.script_words.specs.Values.{is_width};
 ghost use Rattle.group_calls.specs.declared.member.MemberCall.TheVariants.{Msix, MemWrite, MemRead, TakeIrqs, Step, Arrive, Flr, Kill};
-ghost use Rattle.alone_run.specs.Lines.{read_event, write_event};
-ghost use Rattle.alone_run.specs.Kept.{call_of, HasWidth, Accesses, Asked, PerformsCall, Performs};
+ghost use Rattle.guest_lines.specs.Lines.{read_event, write_event};
+ghost use Rattle.alone_run.specs.Kept.{call_of, Accesses, Asked, PerformsCall, Performs};
+ghost use Rattle.guest_lines.specs.Widths.{HasWidth};
 
 use crate::guest::Guest;
 use admin_wire::LegacyCmd;

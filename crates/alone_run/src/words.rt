@@ -1,7 +1,8 @@
 //! Answers in words.
 ghost use Rattle.std.specs.Prelude.{◌≡◌, ◌++◌, ◌≤◌, codes, length, true, OnOk};
-ghost use Rattle.alone_run.specs.Lines.{halt_words, reply_words, ones, outside_words};
-ghost use Rattle.alone_run.specs.Kept.{told_words, words_for, HasWidth};
+ghost use Rattle.guest_lines.specs.Lines.{halt_words, reply_words, ones, outside_words};
+ghost use Rattle.alone_run.specs.Kept.{told_words, words_for};
+ghost use Rattle.guest_lines.specs.Widths.{HasWidth};
 
 use board_script::What;
 use group_calls::{Halt, MemberReply};

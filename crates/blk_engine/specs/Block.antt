@@ -2,16 +2,17 @@
 -- reserved, le64 sector and data.
 use Rattle.std.specs.Prelude.{◌≡◌, ℕ, ◌+◌, ◌-◌, ◌*◌, ◌/◌, ◌%◌, ◌==◌, nat_lt, nat_le, Bool, not, ◌&&◌, ◌||◌, List, [], ◌∷◌, ◌++◌, length, take, drop, replicate, codes, if◌then◌else◌}
 use Rattle.byte_fields.specs.Places.{le32, le64, bytes_at, overwrite}
-use Rattle.blk_engine.specs.declared.request.BlkAnswer.{BlkAnswer}
-use Rattle.blk_engine.specs.declared.request.BlkAnswer.TheVariants.{Reply, Malformed}
+use Rattle.byte_fields.specs.Sizes.{sector_size}
+use Rattle.blk_engine.specs.declared.service.BlkAnswer.{BlkAnswer}
+use Rattle.blk_engine.specs.declared.service.BlkAnswer.TheVariants.{Reply, Malformed}
 
 -- how many sectors a disk has: 5.2.4
 abbrev pub capacity : List ℕ → ℕ
-capacity disk = length disk / 512
+capacity disk = length disk / sector_size
 
 -- a number of bytes is a number of sectors, and these lie below the capacity: 5.2.6
 abbrev pub are_sectors : ℕ → ℕ → ℕ → Bool
-are_sectors capacity sector count = (count % 512 == 0) && nat_le (sector + count / 512) capacity
+are_sectors capacity sector count = (count % sector_size == 0) && nat_le (sector + count / sector_size) capacity
 
 -- 0 OK, 1 IOERR, 2 UNSUPP: of a request of a kind at a sector, with so many bytes given and so much room. The kinds are
 -- 0 IN, 1 OUT, 4 FLUSH and 8 GET_ID: 5.2.6
@@ -31,7 +32,7 @@ device_id member = codes "virtio-group-blk-" ++ (48 + member / 100) ∷ (48 + me
 abbrev pub data_of : ℕ → List ℕ → ℕ → ℕ → ℕ → ℕ → List ℕ
 data_of member disk kind sector room status =
     if not (status == 0) then []
-    else if kind == 0 then bytes_at (512 * sector) room disk
+    else if kind == 0 then bytes_at (sector_size * sector) room disk
     else if kind == 8 then device_id member
     else []
 
@@ -53,7 +54,7 @@ block_reply member read_only disk request writable =
 unfoldable pub disk_after_request : Bool → List ℕ → List ℕ → ℕ → List ℕ
 disk_after_request read_only disk request writable =
     if (le32 0 request == 1) && (status_of read_only disk request writable == 0)
-    then overwrite (512 * le64 8 request) (drop 16 request) disk
+    then overwrite (sector_size * le64 8 request) (drop 16 request) disk
     else disk
 
 -- too short for a request, or no room for a status; of this project

@@ -1,6 +1,8 @@
 //! Sectors of 512 bytes (VIRTIO 1.3, 5.2.4).
-ghost use Rattle.std.specs.Prelude.{◌≡◌, ◌+◌, ◌*◌, ◌/◌, ◌≤◌, length, replicate, IfOk};
+ghost use Rattle.std.specs.Prelude.{◌≡◌, ◌+◌, ◌*◌, ◌≤◌, length, replicate, IfOk};
 ghost use Rattle.byte_fields.specs.Places.{bytes_at, overwrite};
+ghost use Rattle.byte_fields.specs.Sizes.{sector_size, sector_limit};
+ghost use Rattle.blk_engine.specs.Block.{capacity};
 
 use std::alloc::{AllocError as NoMemory, Global};
 use std::marker::Model;
@@ -22,7 +24,7 @@ impl Model for Disk {
 
     ghost Value = { List ℕ };
 
-    ghost use Rattle.blk_engine.specs.Limits.{disk_limit};
+    ghost use Rattle.byte_fields.specs.Sizes.{disk_limit};
 
     ghost view = { λ d. d.bytes.items };
 
@@ -32,8 +34,8 @@ impl Model for Disk {
 impl Disk {
     /// A disk of at most 4,096 sectors of zeros. `NoMemory` where the bytes can't be had.
     pub fn new(alloc: Global, sectors: u64) -> Result<Disk, NoMemory>
-        requires { sectors ≤ SECTOR_LIMIT }
-        ensures { IfOk result (λ disk. disk ≡ replicate (SECTOR_SIZE * sectors) 0) }
+        requires { sectors ≤ sector_limit }
+        ensures { IfOk result (λ disk. disk ≡ replicate (sector_size * sectors) 0) }
     {
         let bytes = Vec::from_elem(alloc, 0, (SECTOR_SIZE * sectors) as usize)?;
         Ok(Disk { bytes })
@@ -41,15 +43,15 @@ impl Disk {
 
     /// How many sectors there are.
     pub fn capacity(&self) -> u64
-        ensures { result ≡ length self.now / SECTOR_SIZE }
+        ensures { result ≡ capacity self.now }
     {
         self.bytes.len() as u64 / SECTOR_SIZE
     }
 
     /// So many bytes from a sector on, lent in place.
     pub(crate) fn read(&self, sector: u64, count: u64) -> &[u8]
-        requires { SECTOR_SIZE * sector + count ≤ length self.now }
-        ensures { result.now ≡ bytes_at (SECTOR_SIZE * sector) count self.now }
+        requires { sector_size * sector + count ≤ length self.now }
+        ensures { result.now ≡ bytes_at (sector_size * sector) count self.now }
     {
         let bytes = self.bytes.as_slice();
         let start = (SECTOR_SIZE * sector) as usize;
@@ -58,8 +60,8 @@ impl Disk {
 
     /// Puts bytes from a sector on. Every other byte stays, and the length does.
     pub(crate) fn write(&mut self, sector: u64, bytes: &[u8])
-        requires { SECTOR_SIZE * sector + length bytes.now ≤ length self.old }
-        ensures written { self.new ≡ overwrite (SECTOR_SIZE * sector) bytes.now self.old }
+        requires { sector_size * sector + length bytes.now ≤ length self.old }
+        ensures written { self.new ≡ overwrite (sector_size * sector) bytes.now self.old }
         ensures length { length self.new ≡ length self.old }
     {
         let limit = self.bytes.len();

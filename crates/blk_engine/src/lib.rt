@@ -7,9 +7,13 @@
 #![tactic(auto)]
 
 mod disk;
+mod laws;
+mod reply;
 mod request;
+mod service;
 #[cfg(test)]
 mod tests;
 
 pub use disk::{Disk, SECTOR_LIMIT, SECTOR_SIZE};
-pub use request::{BlkAnswer, answer, serve, store};
+pub use laws::{disks_cross_threads, sizes};
+pub use service::{BlkAnswer, answer, serve, store};

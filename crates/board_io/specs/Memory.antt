@@ -1,5 +1,5 @@
 -- A source and a sink over memory, as contracts see them. Of this project.
-use Rattle.std.specs.Prelude.{◌≡◌, ℕ, ◌+◌, ◌-◌, ◌^◌, min, List}
+use Rattle.std.specs.Prelude.{◌≡◌, ℕ, min, List}
 use Rattle.board_io.specs.declared.source.Taken.{Taken}
 use Rattle.board_io.specs.declared.source.Taken.TheVariants.{Bytes, End, Failed}
 
@@ -19,10 +19,6 @@ pub record SinkState : Type 0 where
   pub failing : List ℕ
   pub faults : ℕ
   pub widest : ℕ
-
--- a number of 64 bits, one up
-abbrev pub next_count : ℕ → ℕ
-next_count n = min (n + 1) (2 ^ 64 - 1)
 
 -- bytes come as many as there is room for, or all that are left
 abbrev pub FillsRoom : Taken → ℕ → ℕ → Type 0

@@ -1,9 +1,9 @@
 //! A source and a sink over memory, which fail at the calls that they are told to.
 ghost use Rattle.std.specs.Prelude.{◌≡◌, ℕ, ◌+◌, ◌<◌, ◌≤◌, ◌↔◌, ◌⊎◌, [], ◌++◌, length, take, drop, max, min, Contains, IfOk, Some};
-ghost use Rattle.board_io.specs.Faults.{Rose};
+ghost use Rattle.board_io.specs.Faults.{Rose, next_count};
 ghost use Rattle.board_io.specs.Source.{FitsRoom, TakesFrom};
 ghost use Rattle.board_io.specs.Sink.{PutsOn};
-ghost use Rattle.board_io.specs.Memory.{FillsRoom, next_count};
+ghost use Rattle.board_io.specs.Memory.{FillsRoom};
 
 use crate::sink::{PutAnswer, Sink};
 use crate::source::{Source, Taken};
@@ -82,7 +82,8 @@ impl Source for MemSource {
         ensures fills { FillsRoom result (length buf.new) (length self.old.left) }
         ensures calls { self.new.calls ≡ next_count self.old.calls }
         ensures failing { self.new.failing ≡ self.old.failing }
-        ensures faults { (result ≡ Taken.Failed) ⊎ (self.new.faults ≡ self.old.faults) }
+        ensures failures_alone { (result ≡ Taken.Failed) ⊎ (self.new.faults ≡ self.old.faults) }
+        ensures counted { result ≡ Taken.Failed → self.new.faults ≡ next_count self.old.faults }
     {
         self.widest = self.widest.max(buf.len());
         let fails = self.failing.contains(&self.calls);
@@ -172,7 +173,8 @@ impl Sink for MemSink {
         ensures calls { self.new.calls ≡ next_count self.old.calls }
         ensures room { self.new.room ≡ self.old.room }
         ensures failing { self.new.failing ≡ self.old.failing }
-        ensures faults { (result ≡ PutAnswer.Failed) ⊎ (self.new.faults ≡ self.old.faults) }
+        ensures failures_alone { (result ≡ PutAnswer.Failed) ⊎ (self.new.faults ≡ self.old.faults) }
+        ensures counted { result ≡ PutAnswer.Failed → self.new.faults ≡ next_count self.old.faults }
     {
         self.widest = self.widest.max(bytes.len());
         let fails = self.failing.contains(&self.calls);

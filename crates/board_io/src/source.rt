@@ -1,4 +1,4 @@
-ghost use Rattle.std.specs.Prelude.{◌≡◌, ℕ, ◌<◌, ◌≤◌, List, length, max, Option};
+ghost use Rattle.std.specs.Prelude.{◌≡◌, ℕ, ◌<◌, ◌≤◌, ◌⊎◌, List, length, max, Option};
 ghost use Rattle.board_io.specs.Faults.{Rose};
 ghost use Rattle.board_io.specs.Source.{FitsRoom, TakesFrom};
 
@@ -18,7 +18,7 @@ pub trait Source {
     /// The bytes that are left, where the source tells them.
     ghost left: { Self → Option (List ℕ) };
 
-    /// How often a read failed. The count never falls, and stands still at 2^64 - 1.
+    /// How often a read failed. The count rises for a failure alone, and stands still at 2^64 - 1.
     ghost faults: { Self → ℕ };
 
     /// The length of the longest buffer that was lent to it so far, where the source counts it. So a
@@ -32,5 +32,6 @@ pub trait Source {
         ensures left { TakesFrom (left self.old) (left self.new) result buf.new }
         ensures never_falls { faults self.old ≤ faults self.new }
         ensures failed { result ≡ Taken.Failed → Rose (faults self.old) (faults self.new) }
+        ensures failures_alone { (result ≡ Taken.Failed) ⊎ (faults self.new ≡ faults self.old) }
         ensures widest { widest self.new ≤ max (widest self.old) (length buf.old) };
 }

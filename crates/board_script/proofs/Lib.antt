@@ -1,2 +1,4 @@
 pub mod Pairs
 pub mod Kept
+pub mod Table
+pub mod Short

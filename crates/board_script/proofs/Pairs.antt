@@ -3,7 +3,7 @@ use Rattle.std.proofs.Common.{◌≡◌, ℕ, List, ◌∷◌, Result, Ok, sym, 
 use Rattle.script_words.specs.declared.cause.Cause.{Cause}
 use Rattle.script_words.specs.Values.{◌>>=◌}
 use Rattle.board_script.specs.SoFar.{SoFar}
-use Rattle.board_script.specs.Rows.{with_pair, with_pairs}
+use Rattle.board_script.specs.Lines.{with_pair, with_pairs}
 
 pub pairs_step : (old new : SoFar) (actor count : List ℕ) (left more rest : List (List ℕ)) (all : Result SoFar Cause) → left ≡ actor ∷ more → more ≡ count ∷ rest → with_pair old actor count ≡ Ok new
     → with_pairs old left ≡ all → with_pairs new rest ≡ all

@@ -1,7 +1,8 @@
 -- What each script that was read keeps to. Of this project.
 use Rattle.std.specs.Prelude.{◌≡◌, ℕ, ◌+◌, ◌≤◌, ◌<◌, ◌⊎◌, true, List, length, Option, Some, None, IfSome}
-use Rattle.std.specs.List.{All, sum_by}
+use Rattle.std.specs.List.{All, AllPairs, sum_by}
 use Rattle.hex.specs.Hex.{IsBytes}
+use Rattle.byte_fields.specs.Sizes.{guest_limit, is_queue_size, page_limit, sector_limit, shortest_frame, longest_frame}
 use Rattle.board_script.specs.declared.draft.Use.{Use}
 use Rattle.board_script.specs.declared.draft.Use.TheVariants as use_of
 use Rattle.board_script.specs.declared.script.Board.{Board}
@@ -11,10 +12,10 @@ use Rattle.board_script.specs.declared.script.Setup.{Setup}
 use Rattle.board_script.specs.declared.script.Turns.{Turns}
 use Rattle.board_script.specs.declared.script.What.{What}
 use Rattle.board_script.specs.declared.script.What.TheVariants as what
-use Rattle.script_words.specs.Values.{is_width, is_queue_size}
-use Rattle.board_script.specs.declared.rows.Deed.{Deed}
-use Rattle.board_script.specs.Limits.{queue_limit, worker_limit, guest_limit, page_limit, sector_limit, mac_length, first_worker, the_host, offset_limit, range_limit, index_limit, frame_least, frame_limit, turns_limit}
-use Rattle.board_script.specs.SoFar.{SoFar, memory_of, is_net, queues_at, workers_at, scheduled}
+use Rattle.board_script.specs.declared.script.ActorLine.{ActorLine}
+use Rattle.script_words.specs.Values.{is_width}
+use Rattle.board_script.specs.Limits.{queue_limit, worker_limit, mac_length, first_worker, the_host, offset_limit, range_limit, index_limit, line_limit, turns_limit}
+use Rattle.board_script.specs.SoFar.{SoFar, memory_of, is_net, queues_at, workers_at}
 use Rattle.board_script.specs.Script.{Whole}
 
 pub record IsBoard (board : Board) : Type 0 where
@@ -60,7 +61,7 @@ MayAsk queues workers guests who what.Irqs = IsGuest guests who
 MayAsk queues workers guests who (what.Poll queue) = IsGuest guests who × (queue ≤ index_limit)
 MayAsk queues workers guests who (what.Serve queue) = IsWorker workers who × (queue < queues)
 MayAsk queues workers guests who (what.WorkerPoll member queue) = IsWorker workers who × IsGuest guests member × (queue ≤ index_limit)
-MayAsk queues workers guests who (what.Frame member frame) = (who ≡ the_host) × IsGuest guests member × IsBytes frame × (frame_least ≤ length frame) × (length frame ≤ frame_limit) × (is_net guests member ≡ true)
+MayAsk queues workers guests who (what.Frame member frame) = (who ≡ the_host) × IsGuest guests member × IsBytes frame × (shortest_frame ≤ length frame) × (length frame ≤ longest_frame) × (is_net guests member ≡ true)
 MayAsk queues workers guests who (what.Flr member) = (who ≡ the_host) × IsGuest guests member
 MayAsk queues workers guests who (what.Disable member) = (who ≡ the_host) × IsGuest guests member
 MayAsk queues workers guests who what.Reset = who ≡ the_host
@@ -72,23 +73,29 @@ pub record IsTurns (workers : ℕ) (guests : List Setup) (turns : Turns) : Type 
   pub actor : IsActor workers guests turns.who
   pub count : turns.count ≤ turns_limit
 
--- A script: its guests number at most 16, its actors ask what they may, and its turns are few enough.
+-- Lines have the numbers of the text that they stand in: each number is below the limit, and above those of all lines before.
+pub record AreNumbered (lines : List ActorLine) : Type 0 where
+  pub in_order : AllPairs (λ earlier later. earlier.number < later.number) lines
+  pub below : All (λ line. line.number < line_limit) lines
+
+-- A script: its guests number at most 16, its actors ask what they may, its lines are in order, and its turns are few enough.
 pub record IsScript (s : Whole) : Type 0 where
   pub board : IsBoard s.board
   pub few_guests : length s.guests ≤ guest_limit
   pub guests : All IsSetup s.guests
   pub lines : All (λ line. MayAsk s.board.queues s.board.workers s.guests line.who line.what) s.lines
+  pub numbered : AreNumbered s.lines
   pub turns : All (IsTurns s.board.workers s.guests) s.turns
   pub scheduled : sum_by (λ t. t.count) s.turns ≤ turns_limit
+
+-- A script has at most as many lines of actors as there are numbers of lines, and schedules at most a million turns.
+abbrev pub ScriptsAreShort : Type 0
+ScriptsAreShort = (s : Whole) → IsScript s → (length s.lines ≤ line_limit) × (sum_by (λ t. t.count) s.turns ≤ turns_limit)
 
 -- one guest, where it is alone
 abbrev pub IsServed : Use → Whole → Type 0
 IsServed use_of.Group s = Unit {0}
 IsServed use_of.Alone s = length s.guests ≡ 1
-
--- what an actor may ask of what the lines so far say
-abbrev pub Allows : SoFar → Deed → Type 0
-Allows d done = MayAsk (queues_at d.board) (workers_at d.board) d.guests done.who done.what
 
 -- The lines so far keep to all bounds but that on the sum of turns, which is asked after the last pair of its line.
 pub record IsSoFar (d : SoFar) : Type 0 where
@@ -96,7 +103,5 @@ pub record IsSoFar (d : SoFar) : Type 0 where
   pub few_guests : length d.guests ≤ guest_limit
   pub guests : All IsSetup d.guests
   pub lines : All (λ line. MayAsk (queues_at d.board) (workers_at d.board) d.guests line.who line.what) d.lines
+  pub numbered : AreNumbered d.lines
   pub turns : All (IsTurns (workers_at d.board) d.guests) d.turns
-
-abbrev pub KeepsLimit : SoFar → SoFar → Type 0
-KeepsLimit old new = scheduled old ≤ turns_limit → scheduled new ≤ turns_limit

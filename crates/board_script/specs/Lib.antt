@@ -1,6 +1,7 @@
 pub mod Limits
 pub mod SoFar
-pub mod Rows
+pub mod Lines
+pub mod Forms
 pub mod Script
 pub mod Bounds
-pub mod Kept
+pub mod Shapes

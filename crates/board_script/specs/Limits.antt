@@ -1,5 +1,5 @@
 -- How large the things are that a script names, and the numbers of its actors. Of this project.
-use Rattle.std.specs.Prelude.{ℕ}
+use Rattle.std.specs.Prelude.{ℕ, ◌^◌}
 
 -- ---- the board
 
@@ -11,22 +11,7 @@ queue_limit = 8
 abbrev pub worker_limit : ℕ
 worker_limit = 8
 
--- the most guests
-abbrev pub guest_limit : ℕ
-guest_limit = 16
-
 -- ---- a guest and its member
-
--- the most pages of a guest's memory, and the bytes of each
-abbrev pub page_limit : ℕ
-page_limit = 64
-
-abbrev pub page_size : ℕ
-page_size = 4096
-
--- the most sectors of a block device
-abbrev pub sector_limit : ℕ
-sector_limit = 4096
 
 -- the bytes of a MAC
 abbrev pub mac_length : ℕ
@@ -54,14 +39,11 @@ range_limit = 512
 abbrev pub index_limit : ℕ
 index_limit = 65535
 
--- the fewest and the most bytes of a frame
-abbrev pub frame_least : ℕ
-frame_least = 14
-
-abbrev pub frame_limit : ℕ
-frame_limit = 1514
-
 -- ---- the whole script
+
+-- the numbers of lines are below this
+abbrev pub line_limit : ℕ
+line_limit = 2 ^ 32
 
 -- the most turns that one pair schedules, and all together
 abbrev pub turns_limit : ℕ

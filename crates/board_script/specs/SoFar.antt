@@ -10,7 +10,7 @@ use Rattle.legacy_regs.specs.declared.device.Kind.{Kind}
 use Rattle.legacy_regs.specs.declared.device.Kind.TheVariants as kind
 use Rattle.script_words.specs.declared.cause.Cause.{Cause}
 use Rattle.script_words.specs.Values.{among}
-use Rattle.board_script.specs.Limits.{page_size}
+use Rattle.byte_fields.specs.Sizes.{page_size}
 
 pub record SoFar : Type 0 where
   pub board : Option Board

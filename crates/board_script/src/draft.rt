@@ -3,7 +3,9 @@ ghost use Rattle.std.specs.Prelude.{◌≡◌, ◌≤◌, ◌+◌, ◌*◌, ◌+
 ghost use Rattle.std.specs.List.{sum_by};
 ghost use Rattle.board_script.specs.SoFar.{SoFar, nothing, queues_at, workers_at, memory_of, is_net as is_net_of, has_begun as has_begun_of, is_out_of_turn as is_out_of_turn_of, scheduled};
 ghost use Rattle.board_script.specs.Bounds.{IsBoard, IsSetup, MayAsk, IsTurns, IsScript};
-ghost use Rattle.board_script.specs.Limits.{queue_limit, worker_limit, guest_limit, page_size, turns_limit, alone_limit};
+ghost use Rattle.byte_fields.specs.Sizes.{guest_limit, page_size};
+ghost use Rattle.board_script.specs.Limits.{queue_limit, worker_limit, turns_limit, alone_limit};
+ghost use Rattle.board_script.specs.Shapes.{AreBefore};
 ghost use Rattle.board_script.specs.Script.{whole_of};
 
 use crate::limits::{ALONE_LIMIT, FIRST_LINES, LINE_LENGTH, PAGE_SIZE, TURNS_LIMIT};
@@ -36,7 +38,8 @@ impl Model for Draft {
     ghost use Rattle.std.specs.Prelude.{ℕ, ◌≡◌, ◌≤◌, ◌-◌, ◌^◌, min, length};
     ghost use Rattle.std.specs.List.{sum_by};
     ghost use Rattle.board_script.specs.SoFar.{SoFar, queues_at, workers_at};
-    ghost use Rattle.board_script.specs.Limits.{queue_limit, worker_limit, guest_limit};
+    ghost use Rattle.byte_fields.specs.Sizes.{guest_limit};
+    ghost use Rattle.board_script.specs.Limits.{queue_limit, worker_limit};
     ghost use Rattle.board_script.specs.Bounds.{IsSoFar};
 
     ghost Value = { SoFar };
@@ -173,7 +176,8 @@ impl Draft {
 
     #[inline(always)]
     pub fn add_line(&mut self, line: ActorLine) -> Result<(), NoMemory>
-        requires { MayAsk (queues_at self.old.board) (workers_at self.old.board) self.old.guests line.who line.what }
+        requires may { MayAsk (queues_at self.old.board) (workers_at self.old.board) self.old.guests line.who line.what }
+        requires before { AreBefore line.number self.old.lines }
         ensures { OnOk result (self.new ≡ record self.old { lines = self.old.lines ++ line ∷ [] }) }
     {
         self.lines.push(line)?;

@@ -1,4 +1,6 @@
 //! How large the things are that a script names, and the numbers of its actors, of this project.
+ghost use Rattle.std.specs.Prelude.{◌≡◌};
+ghost use Rattle.board_script.specs.Limits.{first_worker, the_host, turns_limit, alone_limit};
 
 // The most administration queues of a board.
 pub(crate) const QUEUE_LIMIT: u64 = 8;
@@ -53,3 +55,11 @@ pub(crate) const LINE_LENGTH: usize = 8;
 
 // For how many lines of actors room is taken at once at most. Room for more lines is taken as they come.
 pub(crate) const FIRST_LINES: usize = 4_096;
+
+/// The limits and numbers that callers read are those of the definitions.
+pub fn limits_are_defined()
+    ensures workers { WORKERS_FROM ≡ first_worker }
+    ensures host { HOST ≡ the_host }
+    ensures turns { TURNS_LIMIT ≡ turns_limit }
+    ensures alone { ALONE_LIMIT ≡ alone_limit }
+{}

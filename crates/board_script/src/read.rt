@@ -1,108 +1,77 @@
 //! Reading a script.
-ghost use Rattle.std.specs.Prelude.{◌≡◌, ◌<◌, ◌-◌, ◌^◌, ◌≤◌, length, false, is_some, OnOk, IfOk};
+ghost use Rattle.std.specs.Prelude.{◌≡◌, ◌<◌, ◌-◌, ◌^◌, ◌≤◌, length, OnOk, IfOk};
 ghost use Rattle.board_text.specs.Line.{lines_of};
 ghost use Rattle.script_words.specs.Texts.{Reads};
 ghost use Rattle.script_words.specs.Values.{Steps};
 ghost use Rattle.board_script.specs.Limits.{turns_limit};
-ghost use Rattle.board_script.specs.SoFar.{has_begun, is_out_of_turn, nothing, scheduled};
-ghost use Rattle.board_script.specs.Bounds.{KeepsLimit, IsScript, IsServed};
-ghost use Rattle.board_script.specs.Rows.{with_pair, with_pairs};
-ghost use Rattle.board_script.specs.Script.{breaks_setup as breaks_setup_of, with_board, with_guest, with_go, with_shape, with_form, with_text, with_lines, serves as serves_of, script_of};
+ghost use Rattle.board_script.specs.SoFar.{nothing, scheduled};
+ghost use Rattle.board_script.specs.Bounds.{IsScript, IsServed};
+ghost use Rattle.board_script.specs.Script.{with_text, with_lines, serves as serves_of, script_of};
+ghost use Rattle.board_script.specs.Shapes.{act_says, shape_says, form_says, AreBefore, Keeps};
 
 use crate::draft::{Draft, Use};
-use crate::rows::{Place, add_act, board, guest_setup, pair};
+use crate::go_lines::add_go;
+use crate::guest_lines::{cfg, io, irqs, mem, msix, peek, poll, read_bar, write_bar};
+use crate::host_lines::{disable, flr, frame, reset};
+use crate::place::Place;
 use crate::script::Script;
+use crate::setup_lines::{add_board, add_guest};
+use crate::worker_lines::{serve, worker_poll};
 use board_text::next_line;
-use script_words::{
-    Cause, Fault, Member, ScriptFault, Shape, Word, Words, at_line, is_ignored, read_shape,
-};
+use script_words::{Act, Cause, Fault, ScriptFault, Shape, at_line, is_ignored, read_shape};
 use std::alloc::Global;
 
-fn add_pair(draft: &mut Draft, actor: &Word, count: &Word) -> Result<(), Fault>
-    ensures { Steps result draft.new (with_pair draft.old actor.now count.now) }
+// A line of an actor.
+fn add_act(alloc: Global, draft: &mut Draft, place: Place, act: &Act) -> Result<(), Fault>
+    requires { AreBefore place.number draft.old.lines }
+    ensures value { Steps result draft.new (act_says place draft.old act.now) }
+    ensures kept { OnOk result (Keeps place.number draft.old draft.new) }
 {
-    let turns = pair(draft, actor, count)?;
-    match draft.add_turns(turns) {
-        Ok(()) => Ok(()),
-        Err(_) => Err(Fault::NoMemory),
+    match act {
+        Act::In {
+            guest,
+            offset,
+            length,
+            tail,
+        } => read_bar(draft, place, guest, offset, length, tail),
+        Act::Out {
+            guest,
+            offset,
+            bytes,
+            tail,
+        } => write_bar(alloc, draft, place, guest, offset, bytes, tail),
+        Act::Mem { guest, addr, bytes } => mem(alloc, draft, place, guest, addr, bytes),
+        Act::Peek {
+            guest,
+            addr,
+            length,
+        } => peek(draft, place, guest, addr, length),
+        Act::Msix { guest, on } => msix(draft, place, guest, *on),
+        Act::Io { guest, on } => io(draft, place, guest, *on),
+        Act::Cfg {
+            guest,
+            offset,
+            length,
+        } => cfg(draft, place, guest, offset, length),
+        Act::Irqs { guest } => irqs(draft, place, guest),
+        Act::Poll { guest, queue } => poll(draft, place, guest, queue),
+        Act::Serve { worker, queue } => serve(draft, place, worker, queue),
+        Act::WorkerPoll {
+            worker,
+            member,
+            queue,
+        } => worker_poll(draft, place, worker, member, queue),
+        Act::Frame { member, frame: hex } => frame(alloc, draft, place, member, hex),
+        Act::Flr { member } => flr(draft, place, member),
+        Act::Disable { member } => disable(draft, place, member),
+        Act::Reset => reset(draft, place),
     }
 }
 
-fn add_pairs(draft: &mut Draft, words: Words) -> Result<(), Fault>
-    ensures { Steps result draft.new (with_pairs draft.old words.entry) }
-{
-    let mut left = words;
-    'pairs: while let Some((actor, rest)) = left.split() {
-        let Some((count, rest)) = rest.split() else {
-            return Ok(());
-        };
-        if let Err(fault) = add_pair(draft, &actor, &count) {
-            return Err(fault);
-        }
-        left = rest;
-    }
-    Ok(())
-}
-
-fn add_go(draft: &mut Draft, words: Words) -> Result<(), Fault>
-    ensures value { Steps result draft.new (with_go draft.old words.entry) }
-    ensures limit { OnOk result (KeepsLimit draft.old draft.new) }
-{
-    add_pairs(draft, words)?;
-    if draft.is_within_limit() {
-        Ok(())
-    } else {
-        Err(Fault::Bad(Cause::Limit))
-    }
-}
-
-fn add_board(draft: &mut Draft, queues: &Word, size: &Word, workers: &Word) -> Result<(), Fault>
-    requires { is_some draft.old.board ≡ false }
-    ensures value { Steps result draft.new (with_board draft.old queues.now size.now workers.now) }
-    ensures limit { OnOk result (KeepsLimit draft.old draft.new) }
-{
-    let board = board(queues, size, workers)?;
-    draft.set_board(board);
-    Ok(())
-}
-
-fn add_guest(draft: &mut Draft, guest: &Word, member: &Member) -> Result<(), Fault>
-    requires first { has_begun draft.old ≡ false }
-    requires turn { is_out_of_turn draft.old guest.now ≡ false }
-    ensures value { Steps result draft.new (with_guest draft.old guest.now member.now) }
-    ensures limit { OnOk result (KeepsLimit draft.old draft.new) }
-{
-    let setup = guest_setup(guest, member)?;
-    match draft.add_guest(setup) {
-        Ok(()) => Ok(()),
-        Err(_) => Err(Fault::NoMemory),
-    }
-}
-
-// The cause `setup`.
-fn breaks_setup(draft: &Draft, shape: &Shape) -> bool
-    ensures { result ≡ breaks_setup_of draft.now shape.now }
-{
-    match shape {
-        Shape::Board { .. } => draft.has_board(),
-        Shape::Guest { number, .. } => {
-            !draft.has_board() || draft.has_begun() || draft.is_out_of_turn(number)
-        }
-        Shape::Acts(_) => !draft.has_board(),
-        Shape::Go(_) => !draft.has_board(),
-    }
-}
-
-fn add_shape(
-    alloc: Global,
-    draft: &mut Draft,
-    used: Use,
-    number: u32,
-    shape: Shape,
-) -> Result<(), Fault>
-    requires { breaks_setup_of draft.old shape ≡ false }
-    ensures value { Steps result draft.new (with_shape used number draft.old shape.entry) }
-    ensures limit { OnOk result (KeepsLimit draft.old draft.new) }
+fn add_shape(alloc: Global, draft: &mut Draft, place: Place, shape: Shape) -> Result<(), Fault>
+    requires { AreBefore place.number draft.old.lines }
+    ensures value { Steps result draft.new (shape_says place draft.old shape.entry) }
+    ensures kept { OnOk result (Keeps place.number draft.old draft.new) }
 {
     match shape {
         Shape::Board {
@@ -110,11 +79,8 @@ fn add_shape(
             size,
             workers,
         } => add_board(draft, &queues, &size, &workers),
-        Shape::Guest {
-            number: guest,
-            member,
-        } => add_guest(draft, &guest, &member),
-        Shape::Acts(act) => add_act(alloc, draft, Place { used, number }, &act),
+        Shape::Guest { number, member } => add_guest(draft, &number, &member),
+        Shape::Acts(act) => add_act(alloc, draft, place, &act),
         Shape::Go(words) => add_go(draft, words),
     }
 }
@@ -122,39 +88,28 @@ fn add_shape(
 fn add_form(
     alloc: Global,
     draft: &mut Draft,
-    used: Use,
-    number: u32,
+    place: Place,
     shape: Option<Shape>,
 ) -> Result<(), Fault>
-    ensures value { Steps result draft.new (with_form used number draft.old shape.entry) }
-    ensures limit { OnOk result (KeepsLimit draft.old draft.new) }
+    requires { AreBefore place.number draft.old.lines }
+    ensures value { Steps result draft.new (form_says place draft.old shape.entry) }
+    ensures kept { OnOk result (Keeps place.number draft.old draft.new) }
 {
     match shape {
         None => Err(Fault::Bad(Cause::Word)),
-        Some(shape) => {
-            if breaks_setup(draft, &shape) {
-                Err(Fault::Bad(Cause::Setup))
-            } else {
-                add_shape(alloc, draft, used, number, shape)
-            }
-        }
+        Some(shape) => add_shape(alloc, draft, place, shape),
     }
 }
 
-fn add_text(
-    alloc: Global,
-    draft: &mut Draft,
-    used: Use,
-    number: u32,
-    text: &[u8],
-) -> Result<(), Fault>
-    ensures value { Steps result draft.new (with_text used number draft.old text.now) }
-    ensures limit { OnOk result (KeepsLimit draft.old draft.new) }
+fn add_text(alloc: Global, draft: &mut Draft, place: Place, text: &[u8]) -> Result<(), Fault>
+    requires { AreBefore place.number draft.old.lines }
+    ensures value { Steps result draft.new (with_text place draft.old text.now) }
+    ensures kept { OnOk result (Keeps place.number draft.old draft.new) }
 {
     if is_ignored(text) {
         return Ok(());
     }
-    add_form(alloc, draft, used, number, read_shape(text))
+    add_form(alloc, draft, place, read_shape(text))
 }
 
 fn serves(used: Use, draft: &Draft) -> bool
@@ -178,7 +133,8 @@ fn read_lines(alloc: Global, used: Use, text: &[u8]) -> Result<Draft, ScriptFaul
     let mut from = 0;
     let mut number = 1;
     'lines: while let Some(line) = next_line(text, from) {
-        if let Err(fault) = add_text(alloc, &mut draft, used, number, &text[line.start..line.end]) {
+        let place = Place { used, number };
+        if let Err(fault) = add_text(alloc, &mut draft, place, &text[line.start..line.end]) {
             return Err(at_line(number, fault));
         }
         from = line.next;

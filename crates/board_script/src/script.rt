@@ -1,9 +1,9 @@
 //! What a script says.
 ghost use Rattle.std.specs.Prelude.{◌≡◌, ◌<◌, ◌≤◌, ◌-◌, length, Some};
 ghost use Rattle.std.specs.List.{slice_get};
-ghost use Rattle.board_script.specs.Limits.{guest_limit};
+ghost use Rattle.byte_fields.specs.Sizes.{guest_limit};
 ghost use Rattle.board_script.specs.Script.{Whole};
-ghost use Rattle.board_script.specs.Bounds.{IsScript, IsSetup, MayAsk, IsTurns};
+ghost use Rattle.board_script.specs.Bounds.{IsScript, ScriptsAreShort, IsSetup, MayAsk, IsTurns};
 
 use board_text::Bytes;
 use legacy_regs::Kind;
@@ -119,6 +119,23 @@ pub enum What {
     /// `host reset`: resets the device group.
     Reset,
 }
+
+fn crosses<T: Send + Sync>() {}
+
+/// A script, and each thing that it says, may be sent to a thread, and shared by threads.
+pub fn scripts_cross_threads() {
+    crosses::<Script>();
+    crosses::<ActorLine>();
+    crosses::<What>();
+    crosses::<Board>();
+    crosses::<Setup>();
+    crosses::<Turns>();
+}
+
+/// A script has at most 2^32 lines of actors, and schedules at most 1,000,000 turns.
+pub fn scripts_are_short()
+    ensures { ScriptsAreShort }
+{}
 
 /// A script: its board, its guests, the lines of its actors in the order of the text, and its schedule.
 #[derive(Debug, Drop)]

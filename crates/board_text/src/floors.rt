@@ -1,6 +1,7 @@
 //! The floors of the members of a group.
 ghost use Rattle.std.specs.Prelude.{◌≡◌, ◌<◌, ◌≤◌, [], ◌∷◌, ◌++◌, length};
 ghost use Rattle.board_text.specs.Floors.{number_for};
+ghost use Rattle.board_text.specs.Limits.{floor_limit};
 
 use arrayvec::ArrayVec;
 use std::marker::Model;
@@ -17,12 +18,13 @@ pub struct Floors {
 
 impl Model for Floors {
     ghost use Rattle.std.specs.Prelude.{ℕ, ◌≤◌, List, length};
+    ghost use Rattle.board_text.specs.Limits.{floor_limit};
 
     ghost Value = { List ℕ };
 
     ghost view = { λ f. f.items.items };
 
-    ghost invariant = { λ f. length f.items.items ≤ 16 };
+    ghost invariant = { λ f. length f.items.items ≤ floor_limit };
 }
 
 impl Floors {
@@ -37,7 +39,7 @@ impl Floors {
 
     /// Adds the floor of the next member. Fewer than 16 are held.
     pub fn push(&mut self, floor: u64)
-        requires { length self.old < 16 }
+        requires { length self.old < floor_limit }
         ensures { self.new ≡ self.old ++ floor ∷ [] }
     {
         self.items.push(floor);
@@ -58,7 +60,7 @@ impl Floors {
     /// How many floors are held.
     pub fn length(&self) -> u32
         ensures value { result ≡ length self.now }
-        ensures fits { length self.now ≤ 16 }
+        ensures fits { length self.now ≤ floor_limit }
     {
         self.items.as_slice().len() as u32
     }

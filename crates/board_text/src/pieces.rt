@@ -1,6 +1,8 @@
 //! At most 256 bytes, which take no memory.
 ghost use Rattle.std.specs.Prelude.{◌≡◌, ◌*◌, ◌+◌, ◌<◌, ◌≤◌, [], ◌∷◌, ◌++◌, length, take};
+ghost use Rattle.std.specs.Bool.{OnFalse};
 ghost use Rattle.board_text.specs.Hex.{FillsPiece, hex_piece, is_piece_length};
+ghost use Rattle.board_text.specs.Limits.{piece_limit};
 
 use crate::hex_text::fill_hex;
 use arrayvec::ArrayVec;
@@ -17,12 +19,13 @@ pub struct Piece {
 
 impl Model for Piece {
     ghost use Rattle.std.specs.Prelude.{ℕ, ◌≤◌, List, length};
+    ghost use Rattle.board_text.specs.Limits.{piece_limit};
 
     ghost Value = { List ℕ };
 
     ghost view = { λ p. p.items.items };
 
-    ghost invariant = { λ p. length p.items.items ≤ 256 };
+    ghost invariant = { λ p. length p.items.items ≤ piece_limit };
 }
 
 // Whether a text of so many digits may spell a piece.
@@ -44,7 +47,7 @@ impl Piece {
 
     /// A copy of at most 256 bytes.
     pub fn from_slice(bytes: &[u8]) -> Piece
-        requires { length bytes.now ≤ 256 }
+        requires { length bytes.now ≤ piece_limit }
         ensures { result ≡ bytes.now }
     {
         let mut items = ArrayVec::new();
@@ -69,7 +72,7 @@ impl Piece {
 
     /// Appends one byte, for which there is room.
     pub fn push(&mut self, byte: u8)
-        requires { length self.old < 256 }
+        requires { length self.old < piece_limit }
         ensures { self.new ≡ self.old ++ byte ∷ [] }
     {
         self.items.push(byte);
@@ -77,7 +80,7 @@ impl Piece {
 
     /// Appends bytes, for all of which there is room.
     pub fn extend(&mut self, bytes: &[u8])
-        requires { length self.old + length bytes.now ≤ 256 }
+        requires { length self.old + length bytes.now ≤ piece_limit }
         ensures { self.new ≡ self.old ++ bytes.now }
     {
         self.items.try_extend_from_slice(bytes).unwrap();
@@ -91,22 +94,27 @@ impl Piece {
     }
 
     /// Takes on the bytes that the text spells, two hex digits of either case a byte, where there are 1 to 256,
-    /// and says whether it does. Where it doesn't, some bytes are held.
+    /// and says whether it does. Where it doesn't, the bytes are as they were.
     pub fn read_hex(&mut self, text: &[u8]) -> bool
-        ensures { FillsPiece result self.new (hex_piece text.now) }
+        ensures value { FillsPiece result self.new (hex_piece text.now) }
+        ensures refused { OnFalse result (self.new ≡ self.old) }
     {
         if !is_length(text.len()) {
             return false;
         }
-        self.items = ArrayVec::from_array_in((), [0; PIECE_LIMIT]);
-        self.items.truncate(text.len() / 2);
-        fill_hex(text, self.items.as_mut_slice())
+        let mut items = ArrayVec::from_array_in((), [0; PIECE_LIMIT]);
+        items.truncate(text.len() / 2);
+        let is_spelled = fill_hex(text, items.as_mut_slice());
+        if is_spelled {
+            self.items = items;
+        }
+        is_spelled
     }
 
     /// The bytes, lent. There are at most 256.
     pub fn as_slice(&self) -> &[u8]
         ensures bytes { result.now ≡ self.now }
-        ensures fits { length self.now ≤ 256 }
+        ensures fits { length self.now ≤ piece_limit }
     {
         self.items.as_slice()
     }

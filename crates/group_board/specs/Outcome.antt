@@ -40,6 +40,16 @@ SaysOf command Usage text old new = Unit {0}
 SaysOf command NoMemory text old new = Unit {0}
 SaysOf command ReadFault text old new = Unit {0}
 
+-- What was put, where the sink tells, whether or not the source told a text: the output of a text that was read, the line of its first fault, or a prefix of these.
+abbrev pub PutsOf : Command → Status → Option (List ℕ) → Option (List ℕ) → Type 0
+PutsOf command Done old new = (text : List ℕ) × SaysOf command Done text old new
+PutsOf command (BadScript line cause) old new = (text : List ℕ) × SaysOf command (BadScript line cause) text old new
+PutsOf command WriteFault old new = (text : List ℕ) × SaysOf command WriteFault text old new
+PutsOf command Usage old new = Unit {0}
+PutsOf command NoMemory old new = Unit {0}
+PutsOf command ReadFault old new = Unit {0}
+PutsOf command TooLong old new = Unit {0}
+
 -- Nothing was put with these.
 abbrev pub PutsNothing : Status → Option (List ℕ) → Option (List ℕ) → Type 0
 PutsNothing Usage old new = Keeps old new

@@ -6,6 +6,7 @@
 #![tactic(auto)]
 
 mod commands;
+mod laws;
 mod output;
 mod reading;
 mod status;
@@ -16,6 +17,7 @@ mod words;
 mod writing;
 
 use board_io::{OpenGate, StdSink, StdSource};
+pub use laws::limits_are_the_definitions;
 pub use script_words::Cause;
 pub use status::{Status, code};
 use std::io;

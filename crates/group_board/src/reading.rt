@@ -1,5 +1,5 @@
 //! Reading a source to its end.
-ghost use Rattle.std.specs.Prelude.{◌≡◌, ◌≤◌, max, IsErrOf};
+ghost use Rattle.std.specs.Prelude.{◌≡◌, ◌≤◌, ◌⊎◌, max, IsErrOf};
 ghost use Rattle.board_io.specs.Faults.{Rose};
 ghost use Rattle.group_board.specs.Limits.{transfer_limit};
 ghost use Rattle.group_board.specs.Reading.{ReadsAll};
@@ -22,6 +22,7 @@ pub fn read_text<R: Source>(alloc: Global, source: &mut R) -> Result<Bytes, Read
     ensures text { ReadsAll (R.left source.old) (R.left source.new) result }
     ensures never_falls { R.faults source.old ≤ R.faults source.new }
     ensures widest { R.widest source.new ≤ max (R.widest source.old) transfer_limit }
+    ensures failures_alone { IsErrOf result ReadFailure.Fault ⊎ (R.faults source.new ≡ R.faults source.old) }
     ensures fault { IsErrOf result ReadFailure.Fault → Rose (R.faults source.old) (R.faults source.new) }
 {
     let mut text = Bytes::new(alloc);

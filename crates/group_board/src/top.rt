@@ -3,7 +3,7 @@ ghost use Rattle.std.specs.Prelude.{◌≡◌, ◌≤◌, ◌⊎◌, ◌↔◌, 
 ghost use Rattle.board_io.specs.Faults.{Rose};
 ghost use Rattle.group_board.specs.Limits.{transfer_limit};
 ghost use Rattle.group_board.specs.Words.{command_named as named};
-ghost use Rattle.group_board.specs.Outcome.{SaysOf, PutsNothing, ReadsToEnd, status_of};
+ghost use Rattle.group_board.specs.Outcome.{SaysOf, PutsOf, PutsNothing, ReadsToEnd, status_of};
 
 use crate::commands::perform;
 use crate::output::fault_text;
@@ -14,7 +14,6 @@ use crate::writing::{put_all, put_output};
 use board_io::{Gate, PutAnswer, Sink, Source};
 use script_words::ScriptFault;
 use std::alloc::Global;
-use std::sync::Wait;
 use std::thread::Threads;
 
 /// The longest input, in bytes.
@@ -33,10 +32,13 @@ pub fn board_once<R: Source, W: Sink>(
     ensures usage { (result ≡ Status.Usage) ↔ (named words.now ≡ None) }
     ensures untouched { result ≡ Status.Usage → (source.new ≡ source.old) × (sink.new ≡ sink.old) }
     ensures text { IfSome (R.left source.old) (λ text. IfSome (named words.now) (λ command. SaysOf command result text (W.held sink.old) (W.held sink.new))) }
+    ensures put { IfSome (named words.now) (λ command. PutsOf command result (W.held sink.old) (W.held sink.new)) }
     ensures nothing { PutsNothing result (W.held sink.old) (W.held sink.new) }
     ensures to_end { IfSome (R.left source.old) (λ text. ReadsToEnd result (R.left source.new)) }
     ensures read_fault { result ≡ Status.ReadFault → Rose (R.faults source.old) (R.faults source.new) }
+    ensures source_failures_alone { (result ≡ Status.ReadFault) ⊎ (R.faults source.new ≡ R.faults source.old) }
     ensures write_fault { result ≡ Status.WriteFault → Rose (W.faults sink.old) (W.faults sink.new) }
+    ensures sink_failures_alone { (result ≡ Status.WriteFault) ⊎ (W.faults sink.new ≡ W.faults sink.old) }
     ensures pieces_read { R.widest source.new ≤ max (R.widest source.old) transfer_limit }
     ensures pieces_put { W.widest sink.new ≤ max (W.widest sink.old) transfer_limit }
     ensures complete { IfSome (R.left source.old) (λ text. IfSome (named words.now) (λ command.
@@ -69,8 +71,8 @@ pub fn board_once<R: Source, W: Sink>(
 }
 
 /// Performs the command that the words name, as `board_once` does. No command of several actors is there yet,
-/// so nothing waits at the gate.
-pub fn board<Rt: Wait + Threads + Sync, R: Source, W: Sink, G: Gate + Sync>(
+/// so nothing waits: the call always returns.
+pub fn board<Rt: Threads + Sync, R: Source, W: Sink, G: Gate + Sync>(
     _rt: &Rt,
     alloc: Global,
     words: &[String],
@@ -81,10 +83,13 @@ pub fn board<Rt: Wait + Threads + Sync, R: Source, W: Sink, G: Gate + Sync>(
     ensures usage { (result ≡ Status.Usage) ↔ (named words.now ≡ None) }
     ensures untouched { result ≡ Status.Usage → (source.new ≡ source.old) × (sink.new ≡ sink.old) }
     ensures text { IfSome (R.left source.old) (λ text. IfSome (named words.now) (λ command. SaysOf command result text (W.held sink.old) (W.held sink.new))) }
+    ensures put { IfSome (named words.now) (λ command. PutsOf command result (W.held sink.old) (W.held sink.new)) }
     ensures nothing { PutsNothing result (W.held sink.old) (W.held sink.new) }
     ensures to_end { IfSome (R.left source.old) (λ text. ReadsToEnd result (R.left source.new)) }
     ensures read_fault { result ≡ Status.ReadFault → Rose (R.faults source.old) (R.faults source.new) }
+    ensures source_failures_alone { (result ≡ Status.ReadFault) ⊎ (R.faults source.new ≡ R.faults source.old) }
     ensures write_fault { result ≡ Status.WriteFault → Rose (W.faults sink.old) (W.faults sink.new) }
+    ensures sink_failures_alone { (result ≡ Status.WriteFault) ⊎ (W.faults sink.new ≡ W.faults sink.old) }
     ensures pieces_read { R.widest source.new ≤ max (R.widest source.old) transfer_limit }
     ensures pieces_put { W.widest sink.new ≤ max (W.widest sink.old) transfer_limit }
     ensures complete { IfSome (R.left source.old) (λ text. IfSome (named words.now) (λ command.

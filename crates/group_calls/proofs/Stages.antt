@@ -4,7 +4,7 @@ use Rattle.std.specs.Prelude.{◌==◌, ◌&&◌, not, nat_lt, if◌then◌else�
 use Rattle.ring_layout.specs.declared.layout.Layout.{Layout}
 use Rattle.ring_layout.specs.declared.descriptor.Descriptor.{Descriptor}
 use Rattle.ring_layout.specs.Layout.{legacy_layout}
-use Rattle.ring_layout.specs.Chain.{nothing, bad_index, bad_chain, chain, found, buffers}
+use Rattle.ring_layout.specs.Chain.{nothing, bad_index, bad_chain, chain, found}
 use Rattle.legacy_regs.specs.declared.device.Kind.TheVariants.{Block, Net}
 use Rattle.legacy_regs.specs.Registers.{member_ring_size, queue_count, page_number}
 use Rattle.group_calls.specs.declared.member.MemberMade.{MemberMade}
@@ -14,7 +14,9 @@ use Rattle.group_calls.specs.MemberEntries.{MemberEntry}
 use Rattle.group_calls.specs.MemberQueues.{receives}
 use Rattle.group_calls.specs.Facts.{Facts, facts}
 use Rattle.group_calls.specs.Steps.{stops, block_step, receive_step, transmit_step, chain_step, found_step, ring_step, are_none, outcome}
-use Rattle.group_calls.specs.Storage.{memory_length, disk_length, memory_then, disk_then, memory_after, disk_after}
+use Rattle.group_calls.specs.Storage.{zeros, memory_length, disk_length, memory_then, memory_from, memory_after, disk_after}
+use Rattle.group_calls.specs.Replay.{disk_then}
+use Rattle.group_calls.proofs.Disks.{memory_from-more, disk_from-more, disk_from-start}
 
 module _ (made : MemberMade) (memory disk : List ℕ) (f : Facts) (q : ℕ) where
   pub outcome-is : outcome made memory disk f q ≡ (
@@ -44,9 +46,9 @@ module _ (made : MemberMade) (memory disk : List ℕ) (f : Facts) (q : ℕ) wher
   unfolding found_step
   found_step-bad_chain l = refl
 
-  pub found_step-chain : (l : Layout) (c : List ℕ) → found_step made memory disk f q l (chain c) ≡ chain_step made made.kind memory disk f q l (buffers memory l c)
+  pub found_step-chain : (l : Layout) (ds : List Descriptor) → found_step made memory disk f q l (chain ds) ≡ chain_step made made.kind memory disk f q l ds
   unfolding found_step
-  found_step-chain l c = refl
+  found_step-chain l ds = refl
 
   pub chain_step-block : (sectors : ℕ) (read_only : Bool) (l : Layout) (ds : List Descriptor)
       → chain_step made (Block sectors read_only) memory disk f q l ds ≡ block_step made read_only memory disk f q l ds
@@ -60,19 +62,16 @@ module _ (made : MemberMade) (memory disk : List ℕ) (f : Facts) (q : ℕ) wher
 
 module _ (made : MemberMade) where
   pub memory_after-start : memory_after made [] ≡ replicate (memory_length made) 0
-  unfolding memory_after
+  unfolding memory_from
   memory_after-start = refl
 
   pub disk_after-start : disk_after made [] ≡ replicate (disk_length made) 0
-  unfolding disk_after
-  disk_after-start = refl
+  disk_after-start = disk_from-start (zeros made) made
 
   pub memory_after-more : (e : MemberEntry) (past : List MemberEntry)
       → memory_after made (e ∷ past) ≡ memory_then (outcome made (memory_after made past) (disk_after made past) (facts made past)) (memory_after made past) e.call e.reply
-  unfolding memory_after
-  memory_after-more e past = refl
+  memory_after-more e past = memory_from-more (zeros made) made e past
 
   pub disk_after-more : (e : MemberEntry) (past : List MemberEntry)
       → disk_after made (e ∷ past) ≡ disk_then (outcome made (memory_after made past) (disk_after made past) (facts made past)) (disk_after made past) e.call e.reply
-  unfolding disk_after
-  disk_after-more e past = refl
+  disk_after-more e past = disk_from-more (zeros made) made e past

@@ -7,7 +7,9 @@ pub mod RegisterSteps
 pub mod MemberQueues
 pub mod Facts
 pub mod Steps
+pub mod Disk
 pub mod Storage
+pub mod Replay
 pub mod Member
 pub mod Lone
 pub mod Asks

@@ -1,5 +1,6 @@
 -- What a member answers, by what its history says.
 use Rattle.std.specs.Prelude.{ℕ, ◌+◌, ◌<◌, ◌≤◌, nat_le, Bool, true, false, not, ◌&&◌, List, [], ◌∷◌, Option, None, Some, length, if◌then◌else◌}
+use Rattle.std.specs.List.{list_any}
 use Rattle.byte_fields.specs.Places.{bytes_at}
 use Rattle.admin_wire.specs.declared.command.LegacyCmd.{LegacyCmd}
 use Rattle.admin_wire.specs.declared.command.LegacyCmd.TheVariants.{CommonWrite, CommonRead, DevWrite, DevRead, Info as NotifyInfo}
@@ -9,7 +10,7 @@ use Rattle.legacy_regs.specs.declared.accesses.Space.TheVariants.{Common, Device
 use Rattle.legacy_regs.specs.Registers.{Registers}
 use Rattle.legacy_regs.specs.Accesses.{is_refused_read, is_refused_write, read_bytes}
 use Rattle.history.specs.Limits.{actor_limit}
-use Rattle.history.specs.Look.{or_else}
+use Rattle.history.specs.Look.{latest_seen_or}
 use Rattle.history.specs.Legal.{IsLegal, never_quiet}
 use Rattle.group_calls.specs.declared.member.MemberMade.{MemberMade}
 use Rattle.group_calls.specs.declared.member.Why.TheVariants.{Field, Range, Frame}
@@ -17,22 +18,28 @@ use Rattle.group_calls.specs.declared.member.MemberCall.{MemberCall}
 use Rattle.group_calls.specs.declared.member.MemberCall.TheVariants.{Act, Notify, Msix, MemWrite, MemRead, TakeIrqs, Step, Arrive, Flr, Kill}
 use Rattle.group_calls.specs.declared.member.MemberReply.{MemberReply}
 use Rattle.group_calls.specs.declared.member.MemberReply.TheVariants.{Data, Written, Info, Refused, Gone, Irqs, Arrived, BacklogFull, Killed}
-use Rattle.group_calls.specs.Limits.{member_limit, page_limit, sector_limit}
+use Rattle.byte_fields.specs.Sizes.{member_limit, page_limit, sector_limit}
 use Rattle.group_calls.specs.MemberEntries.{MemberEntry}
 use Rattle.group_calls.specs.MemberQueues.{receives}
 use Rattle.group_calls.specs.Facts.{Facts, facts}
 use Rattle.group_calls.specs.Steps.{outcome, outcome_reply}
-use Rattle.group_calls.specs.Storage.{memory_length, sectors_of, memory_after, disk_after}
+use Rattle.group_calls.specs.Storage.{Stored, zeros, memory_length, sectors_of, memory_from, disk_from}
 
 -- ---- the end of a member. Of this project
 
 abbrev pub kills : MemberEntry → Bool
 kills e = elim e.call [ Kill ↦ elim e.reply [ Killed ↦ true | _ ↦ false ] | _ ↦ false ]
 
--- the place of the first Kill, and one: a floor of whatever comes after it
-abbrev pub killed : List MemberEntry → Option ℕ
-killed [] = None
-killed (e ∷ past) = or_else (killed past) (if kills e then Some (length past + 1) else None)
+-- a Kill answered Killed stands
+abbrev pub is_killed : List MemberEntry → Bool
+is_killed h = list_any kills h
+
+abbrev pub floor_shown : MemberEntry → List MemberEntry → Option ℕ
+floor_shown e past = if kills e then Some (length past + 1) else None
+
+-- the place of the latest of these, and one: a floor of whatever comes after it; else 0
+abbrev pub gone_floor : List MemberEntry → ℕ
+gone_floor h = latest_seen_or 0 floor_shown h
 
 -- ---- register accesses: VIRTIO 1.3, 2.12.1 (group administration commands, Legacy Interfaces), 4.1.4.10 (legacy interfaces)
 
@@ -92,14 +99,17 @@ is_memory_call (MemWrite addr bytes) = true
 is_memory_call (MemRead addr count) = true
 is_memory_call _ = false
 
--- of a member that was killed at this place, or lives
-abbrev pub answer_by : MemberMade → Option ℕ → Facts → List ℕ → List ℕ → MemberCall → MemberReply
-answer_by made None f memory disk call = living_answer made f memory disk call
-answer_by made (Some floor) f memory disk call = if is_memory_call call then living_answer made f memory disk call else Gone floor
+-- of a member that was killed, under this floor, or lives
+abbrev pub answer_by : MemberMade → Bool → ℕ → Facts → List ℕ → List ℕ → MemberCall → MemberReply
+answer_by made killed floor f memory disk call = if killed && not (is_memory_call call) then Gone floor else living_answer made f memory disk call
 
--- what a member answers
+-- what a member answers that began with this memory and disk
+abbrev pub answer_from : Stored → MemberMade → List MemberEntry → MemberCall → MemberReply
+answer_from first made h call = answer_by made (is_killed h) (gone_floor h) (facts made h) (memory_from first made h) (disk_from first made h) call
+
+-- and with zeros
 abbrev pub member_answer : MemberMade → List MemberEntry → MemberCall → MemberReply
-member_answer made h call = answer_by made (killed h) (facts made h) (memory_after made h) (disk_after made h) call
+member_answer made h call = answer_from (zeros made) made h call
 
 -- ---- legal histories. Of this project
 

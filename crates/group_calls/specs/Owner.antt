@@ -2,6 +2,8 @@
 use Rattle.std.specs.Prelude.{ℕ, ◌≤◌, ◌<◌, ◌==◌, nat_lt, nat_le, Bool, true, false, not, ◌||◌, ◌&&◌, List, Option, None, Some, if◌then◌else◌}
 use Rattle.std.specs.Int.{bit_at}
 use Rattle.std.specs.List.{list_any}
+use Rattle.admin_wire.specs.Numbers.{legacy_notify_info}
+pub use Rattle.admin_wire.specs.Numbers.{sr_iov, einval, invalid_opcode, invalid_field, invalid_group, invalid_member}
 use Rattle.admin_wire.specs.Command.{command_of, list_of}
 use Rattle.admin_wire.specs.declared.command.Body.{Body}
 use Rattle.admin_wire.specs.declared.command.Body.TheVariants.{Query, Use, Legacy as ToMember, Unknown}
@@ -22,34 +24,13 @@ OwnerEntry = Entry OwnerCall OwnerReply
 
 -- ---- numbers: VIRTIO 1.3, 2.12.1 (group administration commands)
 
--- the group type SR-IOV: 2.12 (device groups)
-abbrev pub sr_iov : ℕ
-sr_iov = 1
-
--- the largest opcode, LEGACY_NOTIFY_INFO
+-- the largest opcode
 abbrev pub largest_opcode : ℕ
-largest_opcode = 6
+largest_opcode = legacy_notify_info
 
 -- the opcodes 0 to 6, as bits. Of this project
 abbrev pub supported_list : ℕ
 supported_list = 0x7f
-
--- the status of every refusal, EINVAL
-abbrev pub einval : ℕ
-einval = 22
-
--- the qualifiers of a refusal, whose numbers are of this project
-abbrev pub invalid_opcode : ℕ
-invalid_opcode = 1
-
-abbrev pub invalid_field : ℕ
-invalid_field = 2
-
-abbrev pub invalid_group : ℕ
-invalid_group = 3
-
-abbrev pub invalid_member : ℕ
-invalid_member = 4
 
 -- ---- the virtual functions: VIRTIO 1.3, 2.12 (device groups)
 
@@ -69,6 +50,10 @@ names m e = elim e.call [ Gone member floor ↦ member == m | _ ↦ false ]
 -- a Gone names the member. Of this project
 abbrev pub is_away : List OwnerEntry → ℕ → Bool
 is_away h m = list_any (names m) h
+
+-- the member exists, and isn't away
+abbrev pub is_there : List OwnerEntry → ℕ → Bool
+is_there h m = nat_lt 0 m && nat_le m (vf_count h) && not (is_away h m)
 
 -- ---- the list in use: VIRTIO 1.3, 2.12.1 (group administration commands)
 
@@ -105,7 +90,7 @@ refused h m qualifier = Refused einval qualifier (refusal_floor h m)
 abbrev pub verdict_on : List OwnerEntry → ℕ → Body → OwnerReply
 verdict_on h m Query = Listed supported_list
 verdict_on h m (Use bits) = if nat_lt supported_list bits then refused h m invalid_field else Used
-verdict_on h m (ToMember command) = if nat_lt 0 m && nat_le m (vf_count h) && not (is_away h m) then Legacy m command else refused h m invalid_member
+verdict_on h m (ToMember command) = if is_there h m then Legacy m command else refused h m invalid_member
 verdict_on h m Unknown = refused h m invalid_opcode
 
 -- on a command: the group comes first, then the opcode

@@ -1,10 +1,10 @@
 -- What an administration queue answers, by looking back through its history: VIRTIO 1.3, 2.13 (administration virtqueues). Floors, tags, and what a Reset does are of this project.
 use Rattle.std.specs.Prelude.{◌≡◌, ℕ, ◌≤◌, ◌<◌, ◌/◌, ◌==◌, nat_le, Bool, true, false, not, ◌||◌, ◌&&◌, List, [], ◌∷◌, Option, None, Some, if◌then◌else◌, take, length, filter, is_some}
 use Rattle.std.specs.List.{list_any}
-use Rattle.ring_layout.specs.Layout.{is_ring_size}
+use Rattle.byte_fields.specs.Sizes.{is_queue_size}
 use Rattle.history.specs.declared.entry.Entry.{Entry}
 use Rattle.history.specs.Limits.{actor_limit}
-use Rattle.history.specs.Look.{latest, or_else}
+use Rattle.history.specs.Look.{latest, latest_or, after_latest, or_else}
 use Rattle.history.specs.Legal.{IsLegal}
 use Rattle.group_calls.specs.Limits.{writable_limit}
 use Rattle.board_text.specs.Floors.{number_for}
@@ -89,23 +89,30 @@ outstanding h = filter (is_outstanding h) (posted h)
 
 -- ---- a Reset closes the queue
 
+abbrev pub is_reset : RingEntry → Bool
+is_reset e = elim e.call [ Reset floors ↦ true | _ ↦ false ]
+
+-- a Reset stands
+abbrev pub is_closed : List RingEntry → Bool
+is_closed h = list_any is_reset h
+
+abbrev pub posts : ℕ → RingEntry → Bool
+posts s e = elim (posted_by e) [ None ↦ false | Some p ↦ p.seq == s ]
+
+-- a Reset stands after the command's Post
+abbrev pub is_old : List RingEntry → ℕ → Bool
+is_old h s = list_any is_reset (after_latest (posts s) h)
+
 abbrev pub reset_floors : RingEntry → Option (List ℕ)
 reset_floors e = elim e.call [ Reset floors ↦ Some floors | _ ↦ None ]
 
--- the floors of the latest Reset, or nothing where none stands
-abbrev pub closed : List RingEntry → Option (List ℕ)
-closed h = latest reset_floors h
+-- the floors of the latest Reset, or none
+abbrev pub latest_floors : List RingEntry → List ℕ
+latest_floors h = latest_or [] reset_floors h
 
-abbrev pub is_closed : List RingEntry → Bool
-is_closed h = is_some (closed h)
-
-abbrev pub floor_in : Option (List ℕ) → ℕ → ℕ
-floor_in None guest = 0
-floor_in (Some floors) guest = number_for guest floors
-
--- the number for the guest in the latest Reset, else 0
+-- the number for the guest among them, else 0
 abbrev pub closing_floor : List RingEntry → ℕ → ℕ
-closing_floor h guest = floor_in (closed h) guest
+closing_floor h guest = number_for guest (latest_floors h)
 
 -- ---- answers
 
@@ -133,7 +140,7 @@ complete_answer h s = if in_service h s && not (is_closed h) then Completed else
 -- as many of the completion's bytes as are writable
 abbrev pub take_completed : List RingEntry → Posted → Option (List ℕ × ℕ) → RingReply
 take_completed h p (Some c) = Ready (take p.writable c.0) c.1
-take_completed h p None = if is_closed h then Lost (closing_floor h p.tag.guest) else NotYet
+take_completed h p None = if is_old h p.seq then Lost (closing_floor h p.tag.guest) else NotYet
 
 abbrev pub take_posted : List RingEntry → Option Posted → RingReply
 take_posted h None = Stale
@@ -164,7 +171,7 @@ is_quiet_reply _ = false
 
 -- what a queue is made with: 4, 8, 16, 32, 64, 128 or 256 entries
 abbrev pub IsQueueSize : ℕ → Type 0
-IsQueueSize size = is_ring_size size ≡ true
+IsQueueSize size = is_queue_size size ≡ true
 
 -- what a call has to meet
 abbrev pub queue_may : ℕ → ℕ → RingCall → Type 0

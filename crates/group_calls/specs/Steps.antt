@@ -3,7 +3,7 @@ use Rattle.std.specs.Prelude.{ℕ, ◌==◌, nat_lt, Bool, true, false, not, ◌
 use Rattle.ring_layout.specs.declared.layout.Layout.{Layout}
 use Rattle.ring_layout.specs.declared.descriptor.Descriptor.{Descriptor}
 use Rattle.ring_layout.specs.Layout.{legacy_layout}
-use Rattle.ring_layout.specs.Chain.{Found, nothing, bad_index, bad_chain, chain, found, available, buffers, writable_part, total_length, readable_bytes, Write, scattered, used_writes, wants_no_interrupt}
+use Rattle.ring_layout.specs.Chain.{Found, nothing, bad_index, bad_chain, chain, found, available, writable_part, total_length, readable_bytes, Write, scattered, used_writes, wants_no_interrupt}
 use Rattle.blk_engine.specs.Block.{is_malformed, block_reply, disk_after_request}
 use Rattle.net_engine.specs.Frames.{with_header, transmitted}
 use Rattle.legacy_regs.specs.declared.device.Kind.{Kind}
@@ -87,7 +87,7 @@ unfoldable pub found_step : MemberMade → List ℕ → List ℕ → Facts → �
 found_step made memory disk f q l nothing = stops Empty
 found_step made memory disk f q l bad_index = stops (Halted Index)
 found_step made memory disk f q l bad_chain = stops (Halted Chain)
-found_step made memory disk f q l (chain c) = chain_step made made.kind memory disk f q l (buffers memory l c)
+found_step made memory disk f q l (chain ds) = chain_step made made.kind memory disk f q l ds
 
 unfoldable pub ring_step : MemberMade → List ℕ → List ℕ → Facts → ℕ → Option Layout → Outcome
 ring_step made memory disk f q None = stops (Halted Ring)

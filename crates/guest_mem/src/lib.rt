@@ -5,7 +5,9 @@
 //! takes memory.
 #![tactic(auto)]
 
+mod laws;
 mod memory;
 mod numbers;
 
+pub use laws::{memories_cross_threads, sizes};
 pub use memory::{GuestMem, PAGE_LIMIT, PAGE_SIZE};

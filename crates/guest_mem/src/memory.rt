@@ -1,7 +1,7 @@
 //! A guest's memory as bytes.
 ghost use Rattle.std.specs.Prelude.{◌≡◌, ◌+◌, ◌*◌, ◌≤◌, length, replicate, nat_le, IfOk};
 ghost use Rattle.byte_fields.specs.Places.{bytes_at, overwrite};
-ghost use Rattle.guest_mem.specs.Pages.{memory_limit};
+ghost use Rattle.byte_fields.specs.Sizes.{page_size, page_limit, memory_limit};
 
 use std::alloc::{AllocError as NoMemory, Global};
 use std::marker::Model;
@@ -21,7 +21,7 @@ pub struct GuestMem {
 
 impl Model for GuestMem {
     ghost use Rattle.std.specs.Prelude.{ℕ, ◌≤◌, List, length};
-    ghost use Rattle.guest_mem.specs.Pages.{memory_limit};
+    ghost use Rattle.byte_fields.specs.Sizes.{memory_limit};
 
     ghost Value = { List ℕ };
 
@@ -34,8 +34,8 @@ impl GuestMem {
     /// A memory of 1 to 64 pages of zeros. `NoMemory` where the bytes can't be had.
     pub fn new(alloc: Global, pages: u32) -> Result<GuestMem, NoMemory>
         requires some { 1 ≤ pages }
-        requires most { pages ≤ PAGE_LIMIT }
-        ensures { IfOk result (λ mem. mem ≡ replicate (PAGE_SIZE * pages) 0) }
+        requires most { pages ≤ page_limit }
+        ensures { IfOk result (λ mem. mem ≡ replicate (page_size * pages) 0) }
     {
         let size = PAGE_SIZE as usize * pages as usize;
         let bytes = Vec::from_elem(alloc, 0, size)?;

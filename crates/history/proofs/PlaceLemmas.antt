@@ -1,10 +1,11 @@
 -- Places in a history whose latest entry stands first.
-use Rattle.std.proofs.Common.{eq-eqb, ◌≡◌, ℕ, zero, suc, ◌+◌, ◌<◌, List, [], ◌∷◌, ◌++◌, length, get_or, reverse, Some, arith, refl, ◌∙◌, ◌≤◌, false}
-use Rattle.std.specs.Prelude.{◌==◌}
+use Rattle.std.proofs.Common.{eq-eqb, ◌≡◌, ℕ, zero, suc, ◌+◌, ◌<◌, List, [], ◌∷◌, ◌++◌, length, get_or, reverse, Some, arith, refl, ◌∙◌, ◌≤◌, Bool, true, false, ap}
+use Rattle.std.specs.Prelude.{◌==◌, if◌then◌else◌}
 use Rattle.std.proofs.lemmas.List.{length_push}
 use Rattle.std.proofs.lemmas.Grind.{reverse_onto}
 use Rattle.std.proofs.lemmas.Bool.Decides.{nat_tests}
-use Rattle.history.specs.Places.{entry_at, before}
+use Rattle.history.specs.declared.entry.Entry.{Entry}
+use Rattle.history.specs.Places.{entry_at, before, calls_of}
 
 pub entry_at-first : {E : Type 0} → (ys : List E) (x : E) → entry_at 0 (ys ++ x ∷ []) ≡ Some x
 entry_at-first [] x = refl
@@ -57,5 +58,23 @@ entry_at-up x past p e at =
 
 pub entry_at-now : {E : Type 0} (x : E) (past : List E) → entry_at (length past) (x ∷ past) ≡ Some x
 entry_at-now x past = rw (eq-eqb (length past) (length past) refl) refl
+
+-- the calls of an actor that come later are so many more
+calls_more : {C R : Type 0} (who : ℕ) (later past : List (Entry C R)) → length (calls_of who (later ++ past)) ≡ length (calls_of who later) + length (calls_of who past)
+calls_more who [] past = omega arith
+calls_more who (e ∷ later) past = go (e.who == who) (calls_more who later past)
+  where
+    go : (b : Bool) → length (calls_of who (later ++ past)) ≡ length (calls_of who later) + length (calls_of who past)
+        → length (if b then (length (later ++ past), e) ∷ calls_of who (later ++ past) else calls_of who (later ++ past)) ≡ length (if b then (length later, e) ∷ calls_of who later else calls_of who later) + length (calls_of who past)
+    go true rest = omega (arith, rest)
+    go false rest = rest
+
+-- an actor that calls no more made none of the later calls
+pub no_more_calls : {C R : Type 0} (who : ℕ) (later past : List (Entry C R)) → calls_of who (later ++ past) ≡ calls_of who past → calls_of who later ≡ []
+no_more_calls who later past same = none (calls_of who later) (let more = calls_more who later past in let size = ap length same in omega (arith, more, size))
+  where
+    none : {X : Type 0} (xs : List X) → length xs ≡ 0 → xs ≡ []
+    none [] few = refl
+    none (x ∷ xs) few = absurd (omega (arith, few))
 
 pub ruleset places = (before-none, before-more, before-all)

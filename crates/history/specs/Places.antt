@@ -1,5 +1,5 @@
 -- Places in a history. A history is a list of entries with the latest first, and the place of an entry is the number of entries before it: the length of what stands behind it in the list. Of this project.
-use Rattle.std.specs.Prelude.{◌≡◌, ℕ, nat_lt, ◌==◌, List, [], ◌∷◌, ◌++◌, length, filter, Option, None, Some, if◌then◌else◌}
+use Rattle.std.specs.Prelude.{◌≡◌, ℕ, nat_lt, ◌==◌, List, [], ◌∷◌, ◌++◌, length, Option, None, Some, if◌then◌else◌}
 use Rattle.history.specs.declared.entry.Entry.{Entry}
 
 -- the entry at a place
@@ -16,6 +16,7 @@ before p (e ∷ past) = if nat_lt (length past) p then e ∷ past else before p 
 abbrev pub IsEarlier : {E : Type 0} → List E → List E → Type 0
 IsEarlier {E} old new = (more : List E) × (new ≡ more ++ old)
 
--- the entries of one actor
-abbrev pub calls_of : {C R : Type 0} → ℕ → List (Entry C R) → List (Entry C R)
-calls_of who h = filter (λ e. e.who == who) h
+-- the entries of one actor, each with its place, the latest first
+abbrev pub calls_of : {C R : Type 0} → ℕ → List (Entry C R) → List (ℕ × Entry C R)
+calls_of who [] = []
+calls_of who (e ∷ past) = if e.who == who then (length past, e) ∷ calls_of who past else calls_of who past

@@ -4,6 +4,8 @@ ghost use Rattle.history.specs.declared.entry.Entry.{Entry};
 ghost use Rattle.history.specs.Places.{entry_at, before, IsEarlier};
 ghost use Rattle.history.specs.Legal.{IsLegal};
 
+use crate::entry::{Entry, Placed};
+use crate::log::Log;
 use crate::serial::Serial;
 
 /// At each place of a legal history the reply is the answer to the call over the entries before the place, it isn't
@@ -16,3 +18,12 @@ pub fn each_entry_is_answered<S: Serial>()
 pub fn what_stood_before_is_legal<S: Serial>()
     ensures { (made : S.Made) (h : List (Entry S.Call S.Reply)) (p : ℕ) → IsLegal (S.answer made) S.is_quiet (S.may_call made) h → IsLegal (S.answer made) S.is_quiet (S.may_call made) (before p h) × IsEarlier (before p h) h }
 {}
+
+fn is_shared<T: Send + Sync>() {}
+
+/// What can be sent to threads and shared by them can be so in an entry, in a placed reply and in a log.
+pub fn histories_cross_threads<Call: Send + Sync, Reply: Send + Sync>() {
+    is_shared::<Entry<Call, Reply>>();
+    is_shared::<Placed<Reply>>();
+    is_shared::<Log<Call, Reply>>();
+}

@@ -10,6 +10,6 @@ pub mod laws;
 mod log;
 mod serial;
 
-pub use entry::{ACTOR_LIMIT, Entry, HISTORY_LIMIT, Placed};
+pub use entry::{ACTOR_LIMIT, Entry, HISTORY_LIMIT, Placed, limits};
 pub use log::Log;
 pub use serial::Serial;

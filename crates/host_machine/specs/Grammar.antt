@@ -1,4 +1,4 @@
--- A line of the host as a grammar of what is asked and answered. Of this project; members and their owner are those of VIRTIO 1.3, 2.12 (device groups), and queues those of 2.13 (administration virtqueues).
+-- A line of the host as a grammar of what is asked and answered. Of this project; members and their owner are those of VIRTIO 1.3, 2.12 (device groups), and queues those of 2.13 (administration virtqueues). The floors of asks are in Floors.
 use Rattle.std.specs.Prelude.{◌≡◌, ℕ, ◌+◌, List, [], ◌∷◌, ◌++◌, length}
 use Rattle.group_calls.specs.declared.ask.Ask.TheVariants.{Owner, Queue, Member}
 use Rattle.group_calls.specs.declared.owner.OwnerCall.TheVariants.{Gone as IsGone, Reset as ResetOwner}
@@ -10,9 +10,9 @@ use Rattle.host_machine.specs.declared.line.HostLine.{HostLine}
 use Rattle.host_machine.specs.declared.line.HostLine.TheVariants.{Frame, Flr, Disable, Reset}
 use Rattle.host_machine.specs.Machine.{floor_of}
 
--- a call on a member
+-- a call on a member, whatever the floor
 abbrev pub IsOn : ℕ → MemberCall → Exchange → Type 0
-IsOn m call x = x.0 ≡ Member m 0 call
+IsOn m call x = (floor : ℕ) × (x.0 ≡ Member m floor call)
 
 -- Kill on each member in order, from member 1
 abbrev pub AreKills : List Exchange → Type 0

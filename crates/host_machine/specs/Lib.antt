@@ -1,4 +1,5 @@
 pub mod Machine
 pub mod Within
 pub mod Grammar
+pub mod Floors
 pub mod Runs

@@ -3,16 +3,16 @@ use Rattle.std.specs.Prelude.{ℕ, ◌+◌, ◌≤◌, Bool, true, false}
 use Rattle.history.specs.Limits.{history_limit}
 use Rattle.group_calls.specs.declared.ask.Told.{Told}
 use Rattle.group_calls.specs.declared.ask.Told.TheVariants.{Member as FromMember}
-use Rattle.host_machine.specs.declared.going.Way.{Way}
-use Rattle.host_machine.specs.declared.going.Way.TheVariants.{Delivering, Killing, Closing}
+use Rattle.host_machine.specs.declared.stage.Stage.{Stage}
+use Rattle.host_machine.specs.declared.stage.Stage.TheVariants.{Delivering, Killing, Closing}
 
 -- a member is to be killed: its floor needs a place among the floors
-abbrev pub kills_in : Way → ℕ
+abbrev pub kills_in : Stage → ℕ
 kills_in Killing = 1
 kills_in _ = 0
 
 -- how many queues there are at least
-abbrev pub queue_in : Way → ℕ
+abbrev pub queue_in : Stage → ℕ
 queue_in (Closing queue) = queue + 1
 queue_in _ = 0
 
@@ -22,6 +22,6 @@ IsLow (FromMember placed) = placed.at ≤ history_limit
 IsLow _ = Unit {0}
 
 -- a frame is to be copied
-abbrev pub has_frame : Way → Bool
+abbrev pub has_frame : Stage → Bool
 has_frame (Delivering member frame) = true
 has_frame _ = false

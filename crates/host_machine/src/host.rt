@@ -1,12 +1,12 @@
 //! A line of the host as a machine.
 ghost use Rattle.std.specs.Prelude.{◌≡◌, ◌+◌, ◌≤◌, false, length, IfOk, IsOk, IsSomeAnd, is_none};
-ghost use Rattle.group_calls.specs.Limits.{group_limit};
+ghost use Rattle.byte_fields.specs.Sizes.{guest_limit};
 ghost use Rattle.group_calls.specs.Asks.{AnswersAsk};
-ghost use Rattle.host_machine.specs.Machine.{first, next_ask, turned};
+ghost use Rattle.host_machine.specs.Machine.{first, next_ask, after};
 ghost use Rattle.host_machine.specs.Within.{kills_in, queue_in, has_frame};
 
-use crate::going::{Going, Way, first, turned};
 use crate::line::HostLine;
+use crate::stage::{Stage, Underway, after, first};
 use group_calls::{Ask, MemberCall, OwnerCall, RingCall, Told};
 use std::alloc::AllocError as NoMemory;
 
@@ -16,10 +16,10 @@ use std::alloc::AllocError as NoMemory;
 pub struct Host {
     members: u32,
     queues: u32,
-    going: Going,
-    ghost few: { members ≤ group_limit },
-    ghost room: { kills_in going.way + length going.floors ≤ members },
-    ghost some_queue: { queue_in going.way ≤ queues },
+    line: Underway,
+    ghost few: { members ≤ guest_limit },
+    ghost room: { kills_in line.stage + length line.floors ≤ members },
+    ghost some_queue: { queue_in line.stage ≤ queues },
 }
 
 // A call on a member of which the line knows no floor.
@@ -32,75 +32,75 @@ fn on_member(id: u32, call: MemberCall) -> Ask
 impl Host {
     /// A line of a group of at most 16 members and so many queues, which begins.
     pub fn new(line: HostLine, members: u32, queues: u32) -> Host
-        requires { members ≤ group_limit }
+        requires { members ≤ guest_limit }
         ensures members { result.members ≡ members }
         ensures queues { result.queues ≡ queues }
-        ensures going { result.going ≡ first members line }
+        ensures line { result.line ≡ first members line }
     {
         Host {
             members,
             queues,
-            going: first(members, line),
+            line: first(members, line),
         }
     }
 
     /// The next ask, or nothing once the line has ended. A frame is copied, which alone may want memory.
     pub fn next(&self) -> Result<Option<Ask>, NoMemory>
-        ensures ok { IfOk result (λ ask. ask ≡ next_ask self.now.going) }
-        ensures spares { has_frame self.now.going.way ≡ false → IsOk result }
+        ensures ok { IfOk result (λ ask. ask ≡ next_ask self.now.line) }
+        ensures spares { has_frame self.now.line.stage ≡ false → IsOk result }
     {
-        let floors = &self.going.floors;
-        Ok(match &self.going.way {
-            Way::Delivering { member, frame } => Some(on_member(
+        let floors = &self.line.floors;
+        Ok(match &self.line.stage {
+            Stage::Delivering { member, frame } => Some(on_member(
                 *member,
                 MemberCall::Arrive {
                     frame: frame.copy()?,
                 },
             )),
-            Way::Restarting { member } => Some(on_member(*member, MemberCall::Flr)),
-            Way::Disabling { member } => Some(on_member(*member, MemberCall::Kill)),
-            Way::Leaving { member, floor } => Some(Ask::Owner(OwnerCall::Gone {
+            Stage::Restarting { member } => Some(on_member(*member, MemberCall::Flr)),
+            Stage::Disabling { member } => Some(on_member(*member, MemberCall::Kill)),
+            Stage::Leaving { member, floor } => Some(Ask::Owner(OwnerCall::Gone {
                 member: *member,
                 floor: *floor,
             })),
-            Way::Killing => Some(on_member(floors.length() + 1, MemberCall::Kill)),
-            Way::Resetting => Some(Ask::Owner(OwnerCall::Reset {
+            Stage::Killing => Some(on_member(floors.length() + 1, MemberCall::Kill)),
+            Stage::Resetting => Some(Ask::Owner(OwnerCall::Reset {
                 floors: floors.copy(),
             })),
-            Way::Closing { queue } => Some(Ask::Queue {
+            Stage::Closing { queue } => Some(Ask::Queue {
                 index: *queue,
                 call: RingCall::Reset {
                     floors: floors.copy(),
                 },
             }),
-            Way::Ended => None,
+            Stage::Ended => None,
         })
     }
 
     /// Goes on after the answer to the ask of `next`.
     pub fn feed(&mut self, told: Told)
-        requires { IsSomeAnd (next_ask self.old.going) (λ ask. AnswersAsk ask told) }
+        requires { IsSomeAnd (next_ask self.old.line) (λ ask. AnswersAsk ask told) }
         ensures members { self.new.members ≡ self.old.members }
         ensures queues { self.new.queues ≡ self.old.queues }
-        ensures going { self.new.going ≡ turned self.old.members self.old.queues self.old.going told }
+        ensures line { self.new.line ≡ after self.old.members self.old.queues self.old.line told }
     {
         self.hear(&told);
     }
 
     /// Goes on as `feed` does, after an answer that is only lent.
     pub fn hear(&mut self, told: &Told)
-        requires { IsSomeAnd (next_ask self.old.going) (λ ask. AnswersAsk ask told.now) }
+        requires { IsSomeAnd (next_ask self.old.line) (λ ask. AnswersAsk ask told.now) }
         ensures members { self.new.members ≡ self.old.members }
         ensures queues { self.new.queues ≡ self.old.queues }
-        ensures going { self.new.going ≡ turned self.old.members self.old.queues self.old.going told.now }
+        ensures line { self.new.line ≡ after self.old.members self.old.queues self.old.line told.now }
     {
-        self.going = turned(self.members, self.queues, &self.going, told);
+        self.line = after(self.members, self.queues, &self.line, told);
     }
 
     /// Nothing is left to ask.
     pub fn has_ended(&self) -> bool
-        ensures { result ≡ is_none (next_ask self.now.going) }
+        ensures { result ≡ is_none (next_ask self.now.line) }
     {
-        matches!(self.going.way, Way::Ended)
+        matches!(self.line.stage, Stage::Ended)
     }
 }

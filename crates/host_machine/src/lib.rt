@@ -6,11 +6,11 @@
 //! stands that what the machine asks for a line is that line by a grammar. Memory is taken only where a frame is copied.
 #![tactic(auto)]
 
-mod going;
 mod host;
 pub mod laws;
 mod line;
+mod stage;
 
-pub use going::{Going, Way};
 pub use host::Host;
 pub use line::HostLine;
+pub use stage::{Stage, Underway};

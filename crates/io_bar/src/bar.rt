@@ -174,3 +174,13 @@ impl Bar {
         Piece::from_slice(&all.as_slice()[begin..end])
     }
 }
+
+fn crosses<T: Send + Sync>() {}
+
+/// A BAR, accesses and where they go may be sent to a thread, and shared by threads.
+pub fn bars_cross_threads() {
+    crosses::<Bar>();
+    crosses::<Access>();
+    crosses::<Route>();
+    crosses::<Place>();
+}

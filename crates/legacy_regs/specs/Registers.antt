@@ -2,6 +2,7 @@
 use Rattle.std.specs.Prelude.{ℕ, ◌^◌, nat_lt, Bool, false, if◌then◌else◌, List, [], ◌∷◌, ◌++◌, length, map, replicate, slice_index_or}
 use Rattle.std.specs.List.{sum_by}
 use Rattle.byte_fields.specs.Places.{le16, le32, bytes_of}
+use Rattle.byte_fields.specs.Sizes.{sector_size}
 use Rattle.legacy_regs.specs.declared.device.Kind.{Kind}
 use Rattle.legacy_regs.specs.declared.device.Kind.TheVariants.{Block, Net}
 use Rattle.legacy_regs.specs.declared.accesses.Space.{Space}
@@ -105,7 +106,7 @@ queue_address r queue = slice_index_or r.addresses queue (0 ∷ 0 ∷ 0 ∷ 0 �
 abbrev pub queue_vector : Registers → ℕ → ℕ
 queue_vector r queue = slice_index_or r.queue_vectors queue no_vector
 
--- the page number of a queue, which is its address in pages of 4,096 bytes: 4.1.5.1.3.1
+-- the page number of a queue, which is its address in pages: 4.1.5.1.3.1
 abbrev pub page_number : Registers → ℕ → ℕ
 page_number r queue = le32 0 (queue_address r queue)
 
@@ -124,7 +125,7 @@ common_structure kind r =
 
 -- 33 bytes of a block device (5.2.4), 8 of a network device (5.1.4), whose link is up
 abbrev pub device_structure : Kind → Registers → List ℕ
-device_structure (Block sectors read_only) r = bytes_of 8 sectors ++ replicate 12 0 ++ bytes_of 4 512 ++ replicate 8 0 ++ r.writeback ∷ []
+device_structure (Block sectors read_only) r = bytes_of 8 sectors ++ replicate 12 0 ++ bytes_of 4 sector_size ++ replicate 8 0 ++ r.writeback ∷ []
 device_structure (Net mac) r = r.mac ++ 1 ∷ 0 ∷ []
 
 abbrev pub structure : Kind → Registers → Space → List ℕ

@@ -16,7 +16,8 @@ use Rattle.group_calls.specs.MemberRegisters.{bytes_left, registers_after}
 use Rattle.group_calls.specs.MemberQueues.{is_arrival}
 use Rattle.group_calls.specs.Facts.{facts}
 use Rattle.group_calls.specs.Steps.{Outcome, stops, serves, outcome, outcome_reply}
-use Rattle.group_calls.specs.Storage.{memory_length, disk_length, memory_left, disk_left, memory_then, disk_then, memory_after, disk_after}
+use Rattle.group_calls.specs.Storage.{memory_length, disk_length, memory_left, memory_then, memory_after, disk_after}
+use Rattle.group_calls.specs.Replay.{disk_left, disk_then}
 use Rattle.group_calls.proofs.RegisterSteps.{registers_after-is}
 use Rattle.group_calls.proofs.RegisterEntries.{registers_after-more}
 use Rattle.group_calls.proofs.Stages.{memory_after-start, disk_after-start, memory_after-more, disk_after-more}

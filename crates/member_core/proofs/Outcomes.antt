@@ -4,7 +4,7 @@ use Rattle.std.specs.Prelude.{◌==◌, ◌||◌, ◌&&◌, not, nat_lt}
 use Rattle.ring_layout.specs.declared.layout.Layout.{Layout}
 use Rattle.ring_layout.specs.declared.descriptor.Descriptor.{Descriptor}
 use Rattle.ring_layout.specs.Layout.{legacy_layout}
-use Rattle.ring_layout.specs.Chain.{Found, nothing, bad_index, bad_chain, chain, found, buffers, writable_part, total_length, readable_bytes, wants_no_interrupt}
+use Rattle.ring_layout.specs.Chain.{Found, nothing, bad_index, bad_chain, chain, found, writable_part, total_length, readable_bytes, wants_no_interrupt}
 use Rattle.blk_engine.specs.Block.{is_malformed, block_reply, disk_after_request}
 use Rattle.net_engine.specs.Frames.{with_header}
 use Rattle.legacy_regs.specs.declared.device.Kind.{Kind}
@@ -78,7 +78,7 @@ module _ (made : MemberMade) (memory disk : List ℕ) (f : Facts) (q : ℕ) (sma
   found_usual l nothing = subst (IsUsual q) (sym (found_step-nothing made memory disk f q l)) (halts_usual q Empty tt refl)
   found_usual l bad_index = subst (IsUsual q) (sym (found_step-bad_index made memory disk f q l)) (halts_usual q (Halted Index) tt refl)
   found_usual l bad_chain = subst (IsUsual q) (sym (found_step-bad_chain made memory disk f q l)) (halts_usual q (Halted Chain) tt refl)
-  found_usual l (chain c) = subst (IsUsual q) (sym (found_step-chain made memory disk f q l c)) (chain_usual made.kind l (buffers memory l c))
+  found_usual l (chain c) = subst (IsUsual q) (sym (found_step-chain made memory disk f q l c)) (chain_usual made.kind l c)
 
   ring_usual : (o : Option Layout) → IsUsual q (ring_step made memory disk f q o)
   ring_usual None = subst (IsUsual q) (sym (ring_step-none made memory disk f q)) (halts_usual q (Halted Ring) tt refl)

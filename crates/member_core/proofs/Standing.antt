@@ -1,6 +1,6 @@
 -- A member stands as its history says, at first and after each entry.
-use Rattle.std.proofs.Common.{◌≡◌, ℕ, ◌<◌, Bool, true, false, cond, List, [], ◌∷◌, length, Option, Some, None, refl, sym, ap, ◌∙◌, subst, arith}
-use Rattle.std.specs.Prelude.{◌&&◌, not, nat_le, replicate, slice_index_or}
+use Rattle.std.proofs.Common.{◌≡◌, ℕ, ◌+◌, ◌<◌, Bool, true, false, cond, List, [], ◌∷◌, length, Option, Some, None, refl, sym, ap, ◌∙◌, subst, arith}
+use Rattle.std.specs.Prelude.{◌&&◌, ◌||◌, not, nat_le, is_some, unwrap_or, replicate, slice_index_or}
 use Rattle.history.specs.Limits.{history_limit, actor_limit}
 use Rattle.net_engine.specs.Frames.{backlog_limit, is_frame_length}
 use Rattle.legacy_regs.specs.Registers.{initial_registers, selected as selected_of}
@@ -16,7 +16,7 @@ use Rattle.group_calls.specs.MemberQueues.{receives, is_arrival, leaves_backlog,
 use Rattle.group_calls.specs.Facts.{facts}
 use Rattle.group_calls.specs.Steps.{are_none, outcome}
 use Rattle.group_calls.specs.Storage.{memory_length, disk_length, memory_after, disk_after}
-use Rattle.group_calls.specs.Member.{killed, answer_by, member_answer, IsLegalMember}
+use Rattle.group_calls.specs.Member.{kills, is_killed, gone_floor, answer_by, member_answer, IsLegalMember}
 use Rattle.group_calls.proofs.RegisterSteps.{registers_after-is}
 use Rattle.member_device.specs.Device.{Holdings}
 use Rattle.member_core.specs.declared.state.State.{State}
@@ -39,6 +39,7 @@ keeps_new made d made_is registers memory disk waiting = record {
     queues = refl;
     raised = refl;
     killed = refl;
+    floor = refl;
     few = λ takes. omega arith;
   };
   legal = tt;
@@ -54,45 +55,59 @@ raised-more e past = go (takes_irqs e) refl
     go true takes = rw takes refl
     go false leaves = rw leaves refl
 
+killed-more : (e : MemberEntry) (at : ℕ) (floor : Option ℕ) (past : List MemberEntry) → is_some floor ≡ is_killed past → is_some (killed_then at e floor) ≡ is_killed (e ∷ past)
+killed-more e at floor past same = go (kills e)
+  where
+    go : (b : Bool) → is_some (cond b (Some (at + 1)) floor) ≡ (b || is_killed past)
+    go true = refl
+    go false = same
+
+floor-more : (e : MemberEntry) (at : ℕ) (floor : Option ℕ) (past : List MemberEntry) → at ≡ length past → unwrap_or floor 0 ≡ gone_floor past → unwrap_or (killed_then at e floor) 0 ≡ gone_floor (e ∷ past)
+floor-more e at floor past at_is same = go (kills e)
+  where
+    go : (b : Bool) → unwrap_or (cond b (Some (at + 1)) floor) 0 ≡ unwrap_or (cond b (Some (length past + 1)) None) (gone_floor past)
+    go true = ap (λ (n : ℕ). n + 1) at_is
+    go false = same
+
 -- ---- what a legal reply says of the frames
 
 module _ (made : MemberMade) (who : ℕ) (reply : MemberReply) (past : List MemberEntry) where
-  -- what the answer is by the place of the first Kill
-  abbrev by_floor : Option ℕ → MemberCall → MemberReply
-  by_floor floor call = answer_by made floor (facts made past) (memory_after made past) (disk_after made past) call
+  -- what the answer is by whether the member was killed
+  abbrev by_end : Bool → MemberCall → MemberReply
+  by_end dead call = answer_by made dead (gone_floor past) (facts made past) (memory_after made past) (disk_after made past) call
 
   abbrev came : List ℕ → MemberReply → Bool
   came frame told = is_arrival (record { who = who; call = Arrive frame; reply = told })
 
-  arrival : (frame : List ℕ) → reply ≡ by_floor (killed past) (Arrive frame) → came frame reply ≡ true → receives made.kind 0 ≡ true
-  arrival frame is kept = go (killed past) refl
+  arrival : (frame : List ℕ) → reply ≡ by_end (is_killed past) (Arrive frame) → came frame reply ≡ true → receives made.kind 0 ≡ true
+  arrival frame is kept = go (is_killed past) refl
     where
-      here : came frame (by_floor (killed past) (Arrive frame)) ≡ true
+      here : came frame (by_end (is_killed past) (Arrive frame)) ≡ true
       here = sym (ap (came frame) is) ∙ kept
 
-      living : (b : Bool) → receives made.kind 0 ≡ b → came frame (by_floor None (Arrive frame)) ≡ true → receives made.kind 0 ≡ true
+      living : (b : Bool) → receives made.kind 0 ≡ b → came frame (by_end false (Arrive frame)) ≡ true → receives made.kind 0 ≡ true
       living true takes lives = takes
       living false takes lives = let no : false ≡ true =
           sym (ap (λ b. came frame (cond (not (b && is_frame_length (length frame))) (Refused Frame) (cond (nat_le backlog_limit (length (facts made past).waiting)) BacklogFull Arrived))) takes) ∙ lives in cc
 
-      go : (floor : Option ℕ) → killed past ≡ floor → receives made.kind 0 ≡ true
-      go (Some floor) dead = let no : false ≡ true = sym (ap (λ floor. came frame (by_floor floor (Arrive frame))) dead) ∙ here in cc
-      go None alive = living (receives made.kind 0) refl (sym (ap (λ floor. came frame (by_floor floor (Arrive frame))) alive) ∙ here)
+      go : (dead : Bool) → is_killed past ≡ dead → receives made.kind 0 ≡ true
+      go true dead = let no : false ≡ true = sym (ap (λ dead. came frame (by_end dead (Arrive frame))) dead) ∙ here in cc
+      go false alive = living (receives made.kind 0) refl (sym (ap (λ dead. came frame (by_end dead (Arrive frame))) alive) ∙ here)
 
   -- a frame is kept only of a member that takes frames
   arriving : (call : MemberCall) → reply ≡ member_answer made past call → is_arrival (record { who = who; call = call; reply = reply }) ≡ true → receives made.kind 0 ≡ true
   arriving (Arrive frame) is kept = arrival frame is kept
   arriving _ is kept = cc
 
-  step_leaves : (q : ℕ) → reply ≡ by_floor (killed past) (Step q) → receives made.kind 0 ≡ true → leaves q reply ≡ true → are_none (facts made past).waiting ≡ false
-  step_leaves q is takes gone = go (killed past) refl
+  step_leaves : (q : ℕ) → reply ≡ by_end (is_killed past) (Step q) → receives made.kind 0 ≡ true → leaves q reply ≡ true → are_none (facts made past).waiting ≡ false
+  step_leaves q is takes gone = go (is_killed past) refl
     where
-      here : leaves q (by_floor (killed past) (Step q)) ≡ true
+      here : leaves q (by_end (is_killed past) (Step q)) ≡ true
       here = sym (ap (leaves q) is) ∙ gone
 
-      go : (floor : Option ℕ) → killed past ≡ floor → are_none (facts made past).waiting ≡ false
-      go (Some floor) dead = let no : false ≡ true = sym (none_leaves q (Gone floor) refl refl) ∙ (sym (ap (λ floor. leaves q (by_floor floor (Step q))) dead) ∙ here) in cc
-      go None alive = leaving made (memory_after made past) (disk_after made past) (facts made past) q (facts_small made past q) takes (sym (ap (λ floor. leaves q (by_floor floor (Step q))) alive) ∙ here)
+      go : (dead : Bool) → is_killed past ≡ dead → are_none (facts made past).waiting ≡ false
+      go true dead = let no : false ≡ true = sym (none_leaves q (Gone (gone_floor past)) refl refl) ∙ (sym (ap (λ dead. leaves q (by_end dead (Step q))) dead) ∙ here) in cc
+      go false alive = leaving made (memory_after made past) (disk_after made past) (facts made past) q (facts_small made past q) takes (sym (ap (λ dead. leaves q (by_end dead (Step q))) alive) ∙ here)
 
   -- a frame leaves only where one waits
   leaving_waits : (call : MemberCall) → reply ≡ member_answer made past call → receives made.kind 0 ≡ true → leaves_backlog (record { who = who; call = call; reply = reply }) ≡ true → are_none (facts made past).waiting ≡ false
@@ -133,8 +148,14 @@ module _ (made : MemberMade) (s between later : State) (h : List MemberEntry) (w
     raised_after : later.raised ≡ raised (entry ∷ h)
     raised_after = ap (λ (x : State). x.raised) later_is ∙ ap (raised_then entry) stands.raised ∙ sym (raised-more entry h)
 
-    killed_after : later.killed ≡ killed (entry ∷ h)
-    killed_after = ap (λ (x : State). x.killed) later_is ∙ (λ i. killed_then (at_is i) entry (stands.killed i))
+    killed_kept : later.killed ≡ killed_then at entry s.killed
+    killed_kept = ap (λ (x : State). x.killed) later_is
+
+    killed_after : is_some later.killed ≡ is_killed (entry ∷ h)
+    killed_after = ap is_some killed_kept ∙ killed-more entry at s.killed h stands.killed
+
+    floor_after : unwrap_or later.killed 0 ≡ gone_floor (entry ∷ h)
+    floor_after = ap (λ o. unwrap_or o 0) killed_kept ∙ floor-more entry at s.killed h at_is stands.floor
 
     pub stands_after : Stands made later (entry ∷ h)
     stands_after = record {
@@ -142,6 +163,7 @@ module _ (made : MemberMade) (s between later : State) (h : List MemberEntry) (w
       queues = queues_after;
       raised = raised_after;
       killed = killed_after;
+      floor = floor_after;
       few = few_after made who reply h call reply_is stands.few;
     }
 

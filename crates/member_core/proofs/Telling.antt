@@ -1,6 +1,6 @@
 -- What a member that stands as its history says tells of it.
-use Rattle.std.proofs.Common.{◌≡◌, ℕ, zero, suc, ◌<◌, ◌≤◌, Bool, true, false, cond, List, Option, Some, None, refl, sym, ap, ◌∙◌, inl, inr, arith}
-use Rattle.std.specs.Prelude.{nat_lt, nat_le, not, ◌&&◌, length, slice_index_or}
+use Rattle.std.proofs.Common.{◌≡◌, ℕ, zero, suc, ◌<◌, ◌≤◌, Bool, true, false, cond, List, refl, sym, ap, ◌∙◌, inl, inr, arith}
+use Rattle.std.specs.Prelude.{nat_lt, nat_le, not, ◌&&◌, length, is_some, unwrap_or, slice_index_or}
 use Rattle.std.proofs.lemmas.Bool.Decides.{nat_tests}
 use Rattle.std.proofs.lemmas.Bool.{cases_lt}
 use Rattle.byte_fields.specs.Places.{bytes_at}
@@ -74,8 +74,8 @@ told_by_small s small = small
 
 -- what a member that stands as its history says answers
 pub answer_of : (made : MemberMade) (s : State) (h : List MemberEntry) (call : MemberCall) → Stands made s h
-    → answer_by s.device.made s.killed (facts made h) s.device.memory s.device.disk call ≡ member_answer made h call
-answer_of made s h call stands = λ i. answer_by (stands.device i).made (stands.killed i) (facts made h) (stands.device i).memory (stands.device i).disk call
+    → answer_by s.device.made (is_some s.killed) (unwrap_or s.killed 0) (facts made h) s.device.memory s.device.disk call ≡ member_answer made h call
+answer_of made s h call stands = λ i. answer_by (stands.device i).made (stands.killed i) (stands.floor i) (facts made h) (stands.device i).memory (stands.device i).disk call
 
 -- ---- a step over what is told
 
@@ -137,6 +137,5 @@ small_living made f memory disk (Arrive frame) small =
 small_living made f memory disk Flr small = tt
 small_living made f memory disk Kill small = tt
 
-pub small_answer : (made : MemberMade) (floor : Option ℕ) (f : Facts) (memory disk : List ℕ) (call : MemberCall) → AreSmall f.registers → HasSmallVector (answer_by made floor f memory disk call)
-small_answer made None f memory disk call small = small_living made f memory disk call small
-small_answer made (Some floor) f memory disk call small = small_choice (is_memory_call call) (living_answer made f memory disk call) (Gone floor) (small_living made f memory disk call small) tt
+pub small_answer : (made : MemberMade) (dead : Bool) (floor : ℕ) (f : Facts) (memory disk : List ℕ) (call : MemberCall) → AreSmall f.registers → HasSmallVector (answer_by made dead floor f memory disk call)
+small_answer made dead floor f memory disk call small = small_choice (dead && not (is_memory_call call)) (Gone floor) (living_answer made f memory disk call) tt (small_living made f memory disk call small)

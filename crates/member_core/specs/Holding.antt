@@ -9,7 +9,8 @@ use Rattle.group_calls.specs.MemberRegisters.{registers_after}
 use Rattle.group_calls.specs.MemberQueues.{backlog}
 use Rattle.group_calls.specs.RegisterSteps.{registers_then}
 use Rattle.group_calls.specs.Steps.{Outcome}
-use Rattle.group_calls.specs.Storage.{memory_then, disk_then, memory_after, disk_after}
+use Rattle.group_calls.specs.Storage.{memory_then, memory_after, disk_after}
+use Rattle.group_calls.specs.Replay.{disk_then}
 use Rattle.member_device.specs.Device.{Holdings, waiting_after_act, is_arrived, waiting_after_step}
 
 abbrev pub holdings : MemberMade → List MemberEntry → Holdings

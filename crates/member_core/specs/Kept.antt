@@ -1,7 +1,7 @@
 -- What a member keeps, as equations over its history. Of this project.
-use Rattle.std.specs.Prelude.{◌≡◌, ℕ, ◌+◌, ◌<◌, ◌≤◌, Bool, true, false, List, length, bit_or, slice_index_or, Option, Some, None, if◌then◌else◌}
+use Rattle.std.specs.Prelude.{◌≡◌, ℕ, ◌+◌, ◌<◌, ◌≤◌, Bool, true, false, List, length, bit_or, slice_index_or, Option, Some, None, is_some, unwrap_or, if◌then◌else◌}
 use Rattle.history.specs.Limits.{history_limit}
-use Rattle.history.specs.Look.{count, or_else}
+use Rattle.history.specs.Look.{count}
 use Rattle.group_calls.specs.declared.member.MemberMade.{MemberMade}
 use Rattle.group_calls.specs.declared.member.MemberCall.{MemberCall}
 use Rattle.group_calls.specs.declared.member.MemberCall.TheVariants.{Act}
@@ -10,7 +10,7 @@ use Rattle.group_calls.specs.MemberEntries.{MemberEntry, since_reset}
 use Rattle.group_calls.specs.MemberQueues.{receives, arrivals, leaves_backlog, bit_raised, takes_irqs, raised}
 use Rattle.group_calls.specs.Facts.{Facts}
 use Rattle.group_calls.specs.Steps.{Outcome, outcome}
-use Rattle.group_calls.specs.Member.{kills, killed, living_answer, answer_by, IsLegalMember}
+use Rattle.group_calls.specs.Member.{kills, is_killed, gone_floor, living_answer, answer_by, IsLegalMember}
 use Rattle.member_core.specs.declared.state.State.{State}
 use Rattle.member_core.specs.Queues.{first_facts, is_pending, both_queues, queues_then}
 use Rattle.member_core.specs.Holding.{holdings, holdings_then}
@@ -26,7 +26,8 @@ pub record Stands (made : MemberMade) (s : State) (h : List MemberEntry) : Type 
   pub device : s.device ≡ holdings made h
   pub queues : s.queues ≡ both_queues made.kind (since_reset h)
   pub raised : s.raised ≡ raised h
-  pub killed : s.killed ≡ killed h
+  pub killed : is_some s.killed ≡ is_killed h
+  pub floor : unwrap_or s.killed 0 ≡ gone_floor h
   pub few : LeavesFew made (since_reset h)
 
 -- and the history is legal and not too long
@@ -58,7 +59,7 @@ abbrev pub living_reply : State → Facts → MemberCall → MemberReply
 living_reply s f call = living_answer s.device.made f s.device.memory s.device.disk call
 
 abbrev pub reply_of : State → Facts → MemberCall → MemberReply
-reply_of s f call = answer_by s.device.made s.killed f s.device.memory s.device.disk call
+reply_of s f call = answer_by s.device.made (is_some s.killed) (unwrap_or s.killed 0) f s.device.memory s.device.disk call
 
 -- the state after a call and its reply, of which just the device changes
 abbrev pub left_by_call : State → Facts → MemberCall → MemberReply → State
@@ -71,7 +72,7 @@ raised_then e mask = if takes_irqs e then 0 else bit_or (bit_raised e) mask
 
 -- the entry stands at this place
 abbrev pub killed_then : ℕ → MemberEntry → Option ℕ → Option ℕ
-killed_then at e floor = or_else floor (if kills e then Some (at + 1) else None)
+killed_then at e floor = if kills e then Some (at + 1) else floor
 
 -- the state after an entry at this place, before which this queue was selected
 abbrev pub noted : ℕ → ℕ → MemberEntry → State → State

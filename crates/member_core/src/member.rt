@@ -50,8 +50,8 @@ impl Member {
         })
     }
 
-    /// Takes room for so many calls more, so that the history needn't be moved as it grows. Contracts see the member as it
-    /// was, whatever the answer is.
+    /// Asks for room for so many calls more, so that the history needn't be moved as it grows. It promises none: contracts see
+    /// the member as it was, whatever the answer is, and each call asks for what it still needs.
     pub fn reserve(&mut self, calls: u64) -> Result<(), NoMemory>
         ensures { self.new ≡ self.old }
     {

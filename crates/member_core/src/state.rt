@@ -9,7 +9,7 @@ use member_device::{Answer, Device};
 use std::alloc::AllocError as NoMemory;
 
 /// What a member is at present: its device, what is kept of its two queues, the vectors that were raised and not taken as
-/// bits, and the place of its first Kill and one.
+/// bits, and the place of its Kill and one.
 #[derive(Drop)]
 pub(crate) struct State {
     pub(crate) device: Device,
@@ -116,14 +116,8 @@ impl State {
         ensures err { OnErr result (self.new ≡ self.old) }
     {
         match self.killed {
-            Some(floor) => {
-                if is_memory_call(call) {
-                    self.living_answer(call)
-                } else {
-                    Ok(twice(MemberReply::Gone { floor }))
-                }
-            }
-            None => self.living_answer(call),
+            Some(floor) if !is_memory_call(call) => Ok(twice(MemberReply::Gone { floor })),
+            _ => self.living_answer(call),
         }
     }
 
@@ -153,7 +147,7 @@ impl State {
         } else {
             bit_raised(call, reply) | self.raised
         };
-        if self.killed.is_none() && kills(call, reply) {
+        if kills(call, reply) {
             self.killed = Some(at + 1);
         }
     }

@@ -4,7 +4,7 @@ use Rattle.std.specs.Prelude.{nat_lt, not, ◌&&◌, ◌==◌, if◌then◌else�
 use Rattle.ring_layout.specs.declared.layout.Layout.{Layout}
 use Rattle.ring_layout.specs.declared.descriptor.Descriptor.{Descriptor}
 use Rattle.ring_layout.specs.Layout.{legacy_layout}
-use Rattle.ring_layout.specs.Chain.{Found as RingFound, nothing, bad_index, bad_chain, chain as a_chain, found, buffers}
+use Rattle.ring_layout.specs.Chain.{Found as RingFound, nothing, bad_index, bad_chain, chain as a_chain, found}
 use Rattle.legacy_regs.specs.declared.device.Kind.{Kind}
 use Rattle.legacy_regs.specs.declared.device.Kind.TheVariants.{Block, Net}
 use Rattle.legacy_regs.specs.Registers.{Registers, member_ring_size, queue_count, page_number}
@@ -45,7 +45,7 @@ module _ (made : MemberMade) (memory disk : List ℕ) (f g : Facts) (q : ℕ)
   found_alike l nothing = refl
   found_alike l bad_index = refl
   found_alike l bad_chain = refl
-  found_alike l (a_chain c) = chain_alike made.kind l (buffers memory l c)
+  found_alike l (a_chain c) = chain_alike made.kind l c
 
   ring_alike : (o : Option Layout) → ring_step made memory disk f q o ≡ ring_step made memory disk g q o
   unfolding ring_step

@@ -1,7 +1,7 @@
 -- What stands at a position of a ring, as a step goes on with it.
 use Rattle.std.proofs.Common.{◌≡◌, ℕ, List, sym, ap, ◌∙◌}
 use Rattle.ring_layout.specs.declared.layout.Layout.{Layout}
-use Rattle.ring_layout.specs.Chain.{available, buffers, Found as RingFound, nothing, bad_index, bad_chain, chain as a_chain}
+use Rattle.ring_layout.specs.Chain.{available, Found as RingFound, nothing, bad_index, bad_chain, chain as a_chain}
 use Rattle.ring_device.specs.Buffers.{Buffers}
 use Rattle.ring_device.specs.Answer.{told}
 use Rattle.ring_device.specs.declared.next.Found.TheVariants.{Chain, Empty, Bad}
@@ -19,7 +19,7 @@ module _ (made : MemberMade) (memory disk : List ℕ) (f : Facts) (q : ℕ) (l :
   found_chain bad_index c h = cc
   found_chain bad_chain c h = cc
   found_chain (a_chain xs) c h =
-      let same : c ≡ record { head = available memory l position; parts = buffers memory l xs } = cc in
+      let same : c ≡ record { head = available memory l position; parts = xs } = cc in
       ap (λ (b : Buffers). chain_step made made.kind memory disk f q l b.parts) same ∙ sym (found_step-chain made memory disk f q l xs)
 
   pub found_nothing : (x : RingFound) → Empty ≡ told memory l position x → stops Nothing ≡ found_step made memory disk f q l x

@@ -5,7 +5,7 @@ use Rattle.std.proofs.lemmas.Bool.Decides.{nat_tests}
 use Rattle.ring_layout.specs.declared.layout.Layout.{Layout}
 use Rattle.ring_layout.specs.declared.descriptor.Descriptor.{Descriptor}
 use Rattle.ring_layout.specs.Chain.{readable_bytes, writable_part, total_length}
-use Rattle.blk_engine.specs.declared.request.BlkAnswer.TheVariants.{Reply, Malformed}
+use Rattle.blk_engine.specs.declared.service.BlkAnswer.TheVariants.{Reply, Malformed}
 use Rattle.blk_engine.specs.Block.{is_malformed, block_reply, disk_after_request, answered, disk_after}
 use Rattle.net_engine.specs.Frames.{with_header, transmitted, first_with_header}
 use Rattle.legacy_regs.specs.declared.device.Kind.{Kind}
@@ -16,8 +16,6 @@ use Rattle.group_calls.specs.declared.member.MemberReply.TheVariants.{Halted, Dr
 use Rattle.group_calls.specs.Facts.{Facts}
 use Rattle.group_calls.specs.Steps.{stops, service, frame_or_nothing, block_step, receive_step, transmit_step, chain_step}
 use Rattle.group_calls.proofs.Stages.{chain_step-block, chain_step-net}
-use Rattle.member_device.specs.declared.plan.Service.{Service}
-use Rattle.member_device.specs.Plan.{disk_by}
 
 -- a reply is told of a request that is well formed, and no reply of another
 told_reply : (malformed : Bool) (reply bytes : List ℕ) → Reply bytes ≡ (if malformed then Malformed else Reply reply) → (malformed ≡ false) × (bytes ≡ reply)
@@ -31,19 +29,6 @@ told_malformed false reply told = cc
 same_service : (memory : List ℕ) (f : Facts) (q : ℕ) (l : Layout) (ds : List Descriptor) (reply reply' disk disk' sent sent' : List ℕ)
     → reply ≡ reply' → disk ≡ disk' → sent ≡ sent' → service memory f q l ds reply disk sent ≡ service memory f q l ds reply' disk' sent'
 same_service memory f q l ds reply reply' disk disk' sent sent' r d s = cc
-
--- ---- what a service leaves of the disk, by the kind
-
-module _ (f : Facts) (q : ℕ) (memory disk : List ℕ) (s : Service) (kind : Kind) where
-  pub disk_by_block : (sectors : ℕ) (ro : Bool) → kind ≡ Block sectors ro
-      → service memory f q s.place.layout s.place.chain.parts s.reply (disk_by kind disk s) s.sent
-      ≡ service memory f q s.place.layout s.place.chain.parts s.reply (disk_after ro disk s.request (total_length (writable_part s.place.chain.parts))) s.sent
-  disk_by_block sectors ro is = ap (λ (k : Kind). service memory f q s.place.layout s.place.chain.parts s.reply (disk_by k disk s) s.sent) is
-
-  pub disk_by_net : (mac : List ℕ) → kind ≡ Net mac
-      → service memory f q s.place.layout s.place.chain.parts s.reply (disk_by kind disk s) s.sent
-      ≡ service memory f q s.place.layout s.place.chain.parts s.reply disk s.sent
-  disk_by_net mac is = ap (λ (k : Kind). service memory f q s.place.layout s.place.chain.parts s.reply (disk_by k disk s) s.sent) is
 
 -- ---- block devices
 
@@ -67,14 +52,14 @@ module _ (made : MemberMade) (ro : Bool) (memory disk : List ℕ) (f : Facts) (q
         let bad : is_malformed request writable ≡ true = told_malformed (is_malformed request writable) (block_reply made.id ro disk request writable) told in
         sym (block_halts (sym same_test ∙ bad))
 
-    pub block_is_served : (reply sent : List ℕ) → Reply reply ≡ answered made.id ro disk request writable → sent ≡ []
-        → service memory f q l ds reply (disk_after ro disk request (total_length (writable_part ds))) sent ≡ block_step made ro memory disk f q l ds
-    block_is_served reply sent told none =
+    pub block_is_served : (reply : List ℕ) → Reply reply ≡ answered made.id ro disk request writable
+        → service memory f q l ds reply (disk_after ro disk request (total_length (writable_part ds))) [] ≡ block_step made ro memory disk f q l ds
+    block_is_served reply told =
         let both : (is_malformed request writable ≡ false) × (reply ≡ block_reply made.id ro disk request writable) = told_reply (is_malformed request writable) (block_reply made.id ro disk request writable) reply told in
         let well : is_malformed (readable_bytes memory ds) (total_length (writable_part ds)) ≡ false = sym same_test ∙ both.0 in
         let reply_is : reply ≡ block_reply made.id ro disk (readable_bytes memory ds) (total_length (writable_part ds)) = both.1 ∙ ap (λ (r : List ℕ). block_reply made.id ro disk r writable) request_is ∙ ap (block_reply made.id ro disk (readable_bytes memory ds)) writable_is in
         let disk_is : disk_after ro disk request (total_length (writable_part ds)) ≡ disk_after_request ro disk (readable_bytes memory ds) (total_length (writable_part ds)) = ap (λ (r : List ℕ). disk_after ro disk r (total_length (writable_part ds))) request_is ∙ rw well refl in
-        same_service memory f q l ds reply _ _ _ sent [] reply_is disk_is none ∙ sym (block_goes well)
+        same_service memory f q l ds reply _ _ _ [] [] reply_is disk_is refl ∙ sym (block_goes well)
 
 -- ---- network devices
 
@@ -88,20 +73,20 @@ module _ (memory disk : List ℕ) (f : Facts) (q : ℕ) (l : Layout) (ds : List 
       let test : nat_lt (total_length (writable_part ds)) (length (with_header frame)) ≡ true = grind (arith, nat_tests, less) in
       rw test refl
 
-  pub receive_is_served : (waiting : List (List ℕ)) (reply sent : List ℕ) (writable : ℕ) → 0 < length waiting → reply ≡ first_with_header waiting → writable ≡ total_length (writable_part ds) → length (first_with_header waiting) ≤ writable → sent ≡ []
-      → service memory f q l ds reply disk sent ≡ receive_step memory disk f q l ds waiting
+  pub receive_is_served : (waiting : List (List ℕ)) (reply : List ℕ) (writable : ℕ) → 0 < length waiting → reply ≡ first_with_header waiting → writable ≡ total_length (writable_part ds) → length (first_with_header waiting) ≤ writable
+      → service memory f q l ds reply disk [] ≡ receive_step memory disk f q l ds waiting
   unfolding receive_step
-  receive_is_served [] reply sent writable some reply_is writable_is fits none = absurd (omega arith)
-  receive_is_served (frame ∷ frames) reply sent writable some reply_is writable_is fits none =
+  receive_is_served [] reply writable some reply_is writable_is fits = absurd (omega arith)
+  receive_is_served (frame ∷ frames) reply writable some reply_is writable_is fits =
       let most : length (with_header frame) ≤ total_length (writable_part ds) = omega (arith, writable_is) in
       let test : nat_lt (total_length (writable_part ds)) (length (with_header frame)) ≡ false = grind (arith, nat_tests, most) in
-      rw test (same_service memory f q l ds reply _ disk disk sent [] reply_is refl none)
+      rw test (same_service memory f q l ds reply _ disk disk [] [] reply_is refl refl)
 
-  pub transmit_is_served : (request reply sent : List ℕ) → request ≡ readable_bytes memory ds → reply ≡ [] → sent ≡ frame_or_nothing (transmitted request)
-      → service memory f q l ds reply disk sent ≡ transmit_step memory disk f q l ds
+  pub transmit_is_served : (request sent : List ℕ) → request ≡ readable_bytes memory ds → sent ≡ frame_or_nothing (transmitted request)
+      → service memory f q l ds [] disk sent ≡ transmit_step memory disk f q l ds
   unfolding transmit_step
-  transmit_is_served request reply sent request_is reply_is sent_is =
-      same_service memory f q l ds reply [] disk disk sent _ reply_is refl (sent_is ∙ ap (λ (r : List ℕ). frame_or_nothing (transmitted r)) request_is)
+  transmit_is_served request sent request_is sent_is =
+      same_service memory f q l ds [] [] disk disk sent _ refl refl (sent_is ∙ ap (λ (r : List ℕ). frame_or_nothing (transmitted r)) request_is)
 
 -- ---- the chain of a queue
 

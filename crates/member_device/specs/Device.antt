@@ -12,7 +12,8 @@ use Rattle.group_calls.specs.MemberQueues.{is_served, is_dropped}
 use Rattle.group_calls.specs.RegisterSteps.{registers_then}
 use Rattle.group_calls.specs.Facts.{Facts}
 use Rattle.group_calls.specs.Steps.{Outcome, outcome_reply}
-use Rattle.group_calls.specs.Storage.{memory_left, disk_left}
+use Rattle.group_calls.specs.Storage.{memory_left}
+use Rattle.group_calls.specs.Replay.{disk_left}
 
 pub record Holdings : Type 0 where
   pub made : MemberMade

@@ -8,7 +8,7 @@ ghost use Rattle.group_calls.specs.Steps.{block_step, receive_step, transmit_ste
 ghost use Rattle.member_device.specs.Plan.{planned, IsPlace, IsReady};
 
 use crate::device::Device;
-use crate::plan::{Place, Plan, Service};
+use crate::plan::{Place, Plan};
 use blk_engine::BlkAnswer;
 use board_text::Bytes;
 use group_calls::{Halt, Kind};
@@ -53,13 +53,12 @@ impl Device {
         let writable = place.chain.writable();
         let id = self.made.id;
         match blk_engine::answer(self.alloc, &self.disk, id, read_only, &request, writable)? {
-            BlkAnswer::Reply(reply) => Ok(Plan::Serves(Service {
+            BlkAnswer::Reply(reply) => Ok(Plan::Answers {
                 place,
+                read_only,
                 request,
                 reply,
-                sent: Bytes::new(self.alloc),
-                sent_again: Bytes::new(self.alloc),
-            })),
+            }),
             BlkAnswer::Malformed => Ok(Plan::Halted(Halt::Request)),
         }
     }
@@ -69,19 +68,13 @@ impl Device {
         requires waits { 0 < length self.now.waiting }
         ensures plan { (f : Facts) (q : ℕ) (mac : List ℕ) → self.now.made.kind ≡ Kind.Net mac → IfOk result (λ plan. planned self.now f q plan
             ≡ receive_step self.now.memory self.now.disk f q place.layout place.chain.parts self.now.waiting) }
-        ensures ready { (q position : ℕ) → IsPlace self.now.memory position place → IfOk result (IsReady self.now q position) }
+        ensures ready { (q position : ℕ) → q ≡ 0 → IsPlace self.now.memory position place → IfOk result (IsReady self.now q position) }
     {
         if place.chain.writable() < self.backlog.front_length_with_header() {
             return Ok(Plan::Drops);
         }
         let reply = self.backlog.front_with_header()?;
-        Ok(Plan::Serves(Service {
-            place,
-            request: Bytes::new(self.alloc),
-            reply,
-            sent: Bytes::new(self.alloc),
-            sent_again: Bytes::new(self.alloc),
-        }))
+        Ok(Plan::Receives { place, reply })
     }
 
     /// What the guest gave is sent, if it is a frame behind a header (VIRTIO 1.3, 5.1.6.2).
@@ -89,17 +82,15 @@ impl Device {
         requires inside { LieIn (length self.now.memory) place.chain.parts }
         ensures plan { (f : Facts) (q : ℕ) (mac : List ℕ) → self.now.made.kind ≡ Kind.Net mac → IfOk result (λ plan. planned self.now f q plan
             ≡ transmit_step self.now.memory self.now.disk f q place.layout place.chain.parts) }
-        ensures ready { (q position : ℕ) → ¬ (receives self.now.made.kind q ≡ true) → IsPlace self.now.memory position place → IfOk result (IsReady self.now q position) }
+        ensures ready { (q position : ℕ) → ¬ (q ≡ 0) → IsPlace self.now.memory position place → IfOk result (IsReady self.now q position) }
     {
         let request = gather(self.alloc, &self.memory, &place.chain)?;
         let sent = frame_of(self.alloc, &request)?;
         let sent_again = sent.copy()?;
-        Ok(Plan::Serves(Service {
+        Ok(Plan::Transmits {
             place,
-            request: Bytes::new(self.alloc),
-            reply: Bytes::new(self.alloc),
             sent,
             sent_again,
-        }))
+        })
     }
 }

@@ -1,11 +1,11 @@
 //! The device of one member.
-ghost use Rattle.std.specs.Prelude.{◌≡◌, ◌*◌, [], replicate, IfOk};
+ghost use Rattle.std.specs.Prelude.{◌≡◌, [], IfOk};
 ghost use Rattle.legacy_regs.specs.Registers.{initial_registers, selected};
 ghost use Rattle.group_calls.specs.declared.member.MemberCall.TheVariants.{Msix, Flr};
 ghost use Rattle.group_calls.specs.declared.member.MemberReply.TheVariants.{Written};
 ghost use Rattle.group_calls.specs.MemberQueues.{receives};
 ghost use Rattle.group_calls.specs.RegisterSteps.{registers_then};
-ghost use Rattle.group_calls.specs.Storage.{memory_length, disk_length, sectors_of};
+ghost use Rattle.group_calls.specs.Storage.{sectors_of, zeros};
 ghost use Rattle.group_calls.specs.Member.{IsMemberMade};
 
 use blk_engine::Disk;
@@ -58,8 +58,8 @@ impl Device {
         requires { IsMemberMade made }
         ensures made { IfOk result (λ device. device.made ≡ made) }
         ensures registers { IfOk result (λ device. device.registers ≡ initial_registers made.kind) }
-        ensures memory { IfOk result (λ device. device.memory ≡ replicate (memory_length made) 0) }
-        ensures disk { IfOk result (λ device. device.disk ≡ replicate (disk_length made) 0) }
+        ensures memory { IfOk result (λ device. device.memory ≡ (zeros made).memory) }
+        ensures disk { IfOk result (λ device. device.disk ≡ (zeros made).disk) }
         ensures waiting { IfOk result (λ device. device.waiting ≡ []) }
     {
         let memory = GuestMem::new(alloc, made.pages)?;
@@ -115,4 +115,11 @@ impl Device {
             Kind::Net { .. } => queue == 0,
         }
     }
+}
+
+fn crosses<T: Send + Sync>() {}
+
+/// A device may be sent to a thread, and shared by threads.
+pub fn devices_cross_threads() {
+    crosses::<Device>();
 }

@@ -1,21 +1,13 @@
 //! Frames from the network (VIRTIO 1.3, 5.1.6).
 ghost use Rattle.std.specs.Prelude.{◌≡◌, ◌<◌, length, drop, IfOk, OnErr};
-ghost use Rattle.net_engine.specs.Frames.{is_frame_length};
 ghost use Rattle.group_calls.specs.Member.{arrive_answer};
 ghost use Rattle.member_device.specs.Device.{left_by_arrival};
 
 use crate::device::Device;
 use board_text::Bytes;
 use group_calls::{MemberReply, Why};
-use net_engine::{BACKLOG_LIMIT, LONGEST_FRAME, SHORTEST_FRAME};
+use net_engine::{BACKLOG_LIMIT, is_frame_length};
 use std::alloc::AllocError as NoMemory;
-
-/// Whether a frame may have so many bytes.
-fn is_frame_length(length: usize) -> bool
-    ensures { result ≡ is_frame_length length }
-{
-    SHORTEST_FRAME <= length && length <= LONGEST_FRAME
-}
 
 impl Device {
     /// A frame comes from the network. `Refused` exactly where the member is no network device or the frame hasn't 14 to 1,514

@@ -18,4 +18,4 @@ mod plan;
 mod step;
 
 pub use answer::Answer;
-pub use device::Device;
+pub use device::{Device, devices_cross_threads};

@@ -1,19 +1,44 @@
 //! What was planned is done. Nothing here takes memory.
-ghost use Rattle.std.specs.Prelude.{◌≡◌, ◌<◌, ◌≤◌, ◌==◌, Bool, true, if◌then◌else◌, length, drop};
+ghost use Rattle.std.specs.Prelude.{◌≡◌, ◌≤◌, Bool, if◌then◌else◌, length};
 ghost use Rattle.ring_layout.specs.Chain.{total_length, writable_part};
+ghost use Rattle.blk_engine.specs.Block.{disk_after};
 ghost use Rattle.legacy_regs.specs.Interrupts.{queue_irq};
-ghost use Rattle.group_calls.specs.MemberQueues.{receives};
-ghost use Rattle.group_calls.specs.Steps.{outcome_reply};
+ghost use Rattle.group_calls.specs.Steps.{interrupt, outcome_reply};
 ghost use Rattle.member_device.specs.Device.{left_by_step};
-ghost use Rattle.member_device.specs.Plan.{planned, facts_of, disk_by, put_back, raised_by, IsPlace, IsReady, IsService};
+ghost use Rattle.member_device.specs.Plan.{planned, facts_of, put_back, raised_by, IsPlace, IsReady, IsUsable};
 
 use crate::answer::Answer;
 use crate::device::Device;
-use crate::plan::{Place, Plan, Service};
-use blk_engine::store;
+use crate::plan::{Place, Plan};
 use board_text::Bytes;
-use group_calls::{Irq, Kind, MemberReply};
+use group_calls::{Irq, MemberReply};
 use ring_device::{put_used, scatter, wants_interrupt};
+
+/// A chain that was used.
+struct Used {
+    /// How many bytes were put into it.
+    length: u32,
+    irq: Irq,
+}
+
+impl Used {
+    /// The reply of the service, with the frame that is sent, once to be told and once to be kept.
+    fn answer(self, sent: Bytes, sent_again: Bytes) -> Answer
+        requires { sent_again ≡ sent }
+        ensures told { result.told ≡ MemberReply.Served self.length self.irq sent }
+        ensures kept { result.kept ≡ result.told }
+    {
+        let Used { length, irq } = self;
+        Answer {
+            told: MemberReply::Served { length, irq, sent },
+            kept: MemberReply::Served {
+                length,
+                irq,
+                sent: sent_again,
+            },
+        }
+    }
+}
 
 impl Device {
     /// Does what was planned for a queue that stands at a position.
@@ -43,34 +68,48 @@ impl Device {
                     kept: MemberReply::Dropped,
                 }
             }
-            Plan::Serves(service) => self.serve(position, queue, service),
+            Plan::Answers {
+                place,
+                read_only,
+                request,
+                reply,
+            } => {
+                let used = self.use_chain(position, queue, &place, &reply);
+                self.store(read_only, &request, place.chain.writable());
+                used.answer(Bytes::new(self.alloc), Bytes::new(self.alloc))
+            }
+            Plan::Receives { place, reply } => {
+                let used = self.use_chain(position, queue, &place, &reply);
+                self.drop_first();
+                used.answer(Bytes::new(self.alloc), Bytes::new(self.alloc))
+            }
+            Plan::Transmits {
+                place,
+                sent,
+                sent_again,
+            } => {
+                let nothing = Bytes::new(self.alloc);
+                let used = self.use_chain(position, queue, &place, &nothing);
+                used.answer(sent, sent_again)
+            }
         }
     }
 
-    /// Uses a chain: the reply goes into its writable buffers and the chain into the used ring (VIRTIO 1.3, 2.7.8), the
-    /// device does what is left of its work, and then the interrupt is raised, unless the guest wants none (2.7.7).
-    fn serve(&mut self, position: u16, queue: u16, service: Service) -> Answer
-        requires { IsService self.old queue position service }
-        ensures told { (pending : Bool) → result.told ≡ outcome_reply (planned self.old (facts_of self.old position pending) queue (Plan.Serves service)) }
-        ensures kept { result.kept ≡ result.told }
-        ensures left { (pending : Bool) → self.new ≡ left_by_step queue (planned self.old (facts_of self.old position pending) queue (Plan.Serves service)) self.old }
+    /// Uses a chain: the reply goes into its writable buffers and the chain into the used ring (VIRTIO 1.3, 2.7.8), and then
+    /// the interrupt is raised, unless the guest wants none (2.7.7).
+    fn use_chain(&mut self, position: u16, queue: u16, place: &Place, reply: &Bytes) -> Used
+        requires { IsUsable self.old.memory position place.now reply.now }
+        ensures length { result.length ≡ length reply.now }
+        ensures irq { (pending : Bool) → result.irq ≡ interrupt self.old.memory (facts_of self.old position pending) queue place.now.layout }
+        ensures left { self.new ≡ record self.old {
+          registers = raised_by result.irq self.old.registers;
+          memory = put_back self.old.memory position place.now reply.now;
+        } }
     {
-        let wants = wants_interrupt(&self.memory, &service.place.layout);
-        let length = self.put(position, &service.place, &service.reply);
-        self.finish(queue, &service);
+        let wants = wants_interrupt(&self.memory, &place.layout);
+        let length = self.put(position, place, reply);
         let irq = self.interrupt(queue, wants);
-        Answer {
-            told: MemberReply::Served {
-                length,
-                irq,
-                sent: service.sent,
-            },
-            kept: MemberReply::Served {
-                length,
-                irq,
-                sent: service.sent_again,
-            },
-        }
+        Used { length, irq }
     }
 
     /// Puts a reply into a chain and the chain into the used ring, and says how many bytes the reply has.
@@ -89,25 +128,11 @@ impl Device {
         length
     }
 
-    /// What else a service changes: the disk of a block device, and the frames where one was received.
-    fn finish(&mut self, queue: u16, service: &Service)
-        requires frame { receives self.old.made.kind queue ≡ true → 0 < length self.old.waiting }
-        ensures { self.new ≡ record self.old {
-          disk = disk_by self.old.made.kind self.old.disk service.now;
-          waiting = if queue == 0 then drop 1 self.old.waiting else self.old.waiting;
-        } }
+    /// Puts on the disk what a request writes.
+    fn store(&mut self, read_only: bool, request: &Bytes, writable: u64)
+        ensures { self.new ≡ record self.old { disk = disk_after read_only self.old.disk request.now writable } }
     {
-        match &self.made.kind {
-            Kind::Block { read_only, .. } => {
-                let writable = service.place.chain.writable();
-                store(&mut self.disk, *read_only, &service.request, writable);
-            }
-            Kind::Net { .. } => {
-                if queue == 0 {
-                    self.drop_first();
-                }
-            }
-        }
+        blk_engine::store(&mut self.disk, read_only, request, writable);
     }
 
     /// Raises the queue's interrupt, where the guest wants one.

@@ -11,18 +11,7 @@ pub(crate) struct Place {
     pub(crate) chain: Chain,
 }
 
-/// A chain that will be used: what the guest gave, the reply into its buffers, and the frame that is sent, once to be told
-/// and once to be kept. Of what isn't wanted there is no byte.
-#[derive(Drop)]
-pub(crate) struct Service {
-    pub(crate) place: Place,
-    pub(crate) request: Bytes,
-    pub(crate) reply: Bytes,
-    pub(crate) sent: Bytes,
-    pub(crate) sent_again: Bytes,
-}
-
-/// What a step will do. Only the last two change anything.
+/// What a step will do. The first three change nothing.
 #[derive(Drop)]
 pub(crate) enum Plan {
     NotPending,
@@ -30,5 +19,22 @@ pub(crate) enum Plan {
     Halted(Halt),
     /// The first frame that waits is dropped.
     Drops,
-    Serves(Service),
+    /// A request of a block device is answered.
+    Answers {
+        place: Place,
+        read_only: bool,
+        request: Bytes,
+        reply: Bytes,
+    },
+    /// The first frame that waits goes to the guest, behind its header.
+    Receives {
+        place: Place,
+        reply: Bytes,
+    },
+    /// The guest's frame is sent, once to be told and once to be kept. It has no byte where the guest gave no frame.
+    Transmits {
+        place: Place,
+        sent: Bytes,
+        sent_again: Bytes,
+    },
 }

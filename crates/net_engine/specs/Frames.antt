@@ -1,21 +1,26 @@
--- Frames, and what stands around them: VIRTIO 1.3, 5.1.6. The numbers 14, 1,514 and 64 are of this project.
+-- Frames, and what stands around them: VIRTIO 1.3, 5.1.6.
 use Rattle.std.specs.Prelude.{ℕ, ◌-◌, nat_le, Bool, ◌&&◌, List, [], ◌∷◌, ◌++◌, Option, Some, None, length, drop, replicate, if◌then◌else◌}
+use Rattle.byte_fields.specs.Sizes.{shortest_frame, longest_frame}
 
--- how many frames wait at most
+-- how many frames wait at most; of this project
 abbrev pub backlog_limit : ℕ
 backlog_limit = 64
 
 -- a frame has so many bytes
 abbrev pub is_frame_length : ℕ → Bool
-is_frame_length n = nat_le 14 n && nat_le n 1514
+is_frame_length n = nat_le shortest_frame n && nat_le n longest_frame
 
--- the frame behind ten bytes of header, which are the legacy header: 5.1.6.1, 5.1.6.2
+-- the bytes of the header before a frame. It is the legacy header, which has no number of buffers: 5.1.6.1
+abbrev pub header_size : ℕ
+header_size = 10
+
+-- the frame behind its header: 5.1.6.2
 abbrev pub transmitted : List ℕ → Option (List ℕ)
-transmitted bytes = if is_frame_length (length bytes - 10) then Some (drop 10 bytes) else None
+transmitted bytes = if is_frame_length (length bytes - header_size) then Some (drop header_size bytes) else None
 
--- ten zeros before a frame: 5.1.6.4, with no offload
+-- a header of zeros before a frame: 5.1.6.4, with no offload
 abbrev pub with_header : List ℕ → List ℕ
-with_header frame = replicate 10 0 ++ frame
+with_header frame = replicate header_size 0 ++ frame
 
 -- the first of the frames that wait, with its header
 abbrev pub first_with_header : List (List ℕ) → List ℕ

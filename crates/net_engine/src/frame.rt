@@ -1,6 +1,6 @@
 //! A frame behind its header (VIRTIO 1.3, 5.1.6).
 ghost use Rattle.std.specs.Prelude.{◌≡◌, ◌+◌, ◌^◌, ◌<◌, length, IfOk};
-ghost use Rattle.net_engine.specs.Frames.{transmitted, with_header as behind_header};
+ghost use Rattle.net_engine.specs.Frames.{is_frame_length, transmitted, with_header as behind_header};
 
 use board_text::Bytes;
 use std::alloc::{AllocError as NoMemory, Global};
@@ -15,13 +15,20 @@ pub const SHORTEST_FRAME: usize = 14;
 /// The most bytes of a frame, an Ethernet header and 1,500 bytes behind it: a limit of this project.
 pub const LONGEST_FRAME: usize = 1514;
 
+/// Whether a frame may have so many bytes.
+pub fn is_frame_length(length: usize) -> bool
+    ensures { result ≡ is_frame_length length }
+{
+    (SHORTEST_FRAME..=LONGEST_FRAME).contains(&length)
+}
+
 /// The frame that a guest sends (VIRTIO 1.3, 5.1.6.2): the bytes behind the header, whatever the header says. `None` exactly
 /// where these aren't 14 to 1,514, a header that isn't whole among them. `NoMemory` where the frame can't be had.
 pub fn transmit(alloc: Global, readable: &Bytes) -> Result<Option<Bytes>, NoMemory>
     ensures { IfOk result (λ frame. frame ≡ transmitted readable.now) }
 {
     let bytes = readable.as_slice();
-    if bytes.len() < HEADER_SIZE + SHORTEST_FRAME || bytes.len() > HEADER_SIZE + LONGEST_FRAME {
+    if bytes.len() < HEADER_SIZE || !is_frame_length(bytes.len() - HEADER_SIZE) {
         return Ok(None);
     }
     let frame = Bytes::from_slice(alloc, &bytes[HEADER_SIZE..])?;

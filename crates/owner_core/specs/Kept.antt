@@ -1,20 +1,20 @@
--- What the owner keeps, as equations over its history. Of this project.
+-- What the owner keeps, as equations over its history. The code's own.
 use Rattle.std.specs.Prelude.{◌≡◌, ℕ, ◌-◌, ◌<◌, ◌≤◌, nat_lt, nat_le, ◌&&◌, Bool, false, List, length, slice_index, slice_index_or}
 use Rattle.history.specs.Limits.{history_limit}
-use Rattle.group_calls.specs.Limits.{group_limit}
+use Rattle.byte_fields.specs.Sizes.{guest_limit}
 use Rattle.group_calls.specs.Owner.{OwnerEntry, vf_count, list_in_use, refusal_floor, is_away, IsLegalOwner}
 
 -- the members of which something is kept: those that a group has at most
 abbrev pub is_near : ℕ → Bool
-is_near m = nat_lt 0 m && nat_le m group_limit
+is_near m = nat_lt 0 m && nat_le m guest_limit
 
 -- the floor of each near member
 abbrev pub AreFloors : List ℕ → List OwnerEntry → Type 0
-AreFloors told h = (m : ℕ) → 0 < m → m ≤ group_limit → slice_index told (m - 1) ≡ refusal_floor h m
+AreFloors told h = (m : ℕ) → 0 < m → m ≤ guest_limit → slice_index told (m - 1) ≡ refusal_floor h m
 
 -- which near members are away
 abbrev pub AreAway : List Bool → List OwnerEntry → Type 0
-AreAway away h = (m : ℕ) → 0 < m → m ≤ group_limit → slice_index_or away (m - 1) false ≡ is_away h m
+AreAway away h = (m : ℕ) → 0 < m → m ≤ guest_limit → slice_index_or away (m - 1) false ≡ is_away h m
 
 -- without strays no other member is away or has a floor
 abbrev pub AreNear : Bool → List OwnerEntry → Type 0

@@ -1,19 +1,22 @@
 //! The owner.
 ghost use Rattle.std.specs.Prelude.{◌≡◌, ◌≤◌, ℕ, []};
 ghost use Rattle.history.specs.Legal.{never_quiet, never_spares};
+ghost use Rattle.admin_wire.specs.Numbers.{qualifier_number};
 ghost use Rattle.group_calls.specs.Limits.{writable_limit};
 ghost use Rattle.group_calls.specs.Owner.{largest_opcode, is_used, is_away, refusal_floor, refused, verdict_on, verdict, owner_answer, owner_may};
 
 use crate::looking::{away_found, floor_found};
-use crate::numbers::{
-    EINVAL, INVALID_FIELD, INVALID_GROUP, INVALID_MEMBER, INVALID_OPCODE, SUPPORTED_LIST,
-};
 use crate::steps::{count_after, in_use_after, note_away, note_told, strays_after};
-use admin_wire::{Body, LEGACY_NOTIFY_INFO, LIST_USE, SR_IOV, read_body, read_header};
+use admin_wire::{
+    Body, LEGACY_NOTIFY_INFO, LIST_USE, Qualifier, SR_IOV, Status, read_body, read_header,
+};
 use board_text::{FLOOR_LIMIT, Piece};
 use group_calls::{Entry, HISTORY_LIMIT, Log, OwnerCall, OwnerReply, Placed, Serial};
 use std::alloc::{AllocError as NoMemory, Global};
 use std::marker::Model;
+
+// The opcodes 0 to 6, as bits. Of this project.
+const SUPPORTED_LIST: u64 = 0x7f;
 
 /// The owner of a group, which is the physical function: VIRTIO 1.3, 2.12 (device groups). Contracts see the number of
 /// members that it was made for and its history, the latest entry first.
@@ -60,8 +63,8 @@ impl Owner {
         }
     }
 
-    /// Takes room for so many calls more, so that the history needn't be moved as it grows. Contracts see the owner as it
-    /// was, whatever the answer is.
+    /// Asks for room for so many calls more, so that the history is moved less often as it grows. It promises none: a
+    /// later call may still be answered `NoMemory`. Contracts see the owner as it was, whatever the answer is.
     pub fn reserve(&mut self, calls: u64) -> Result<(), NoMemory>
         ensures { self.new ≡ self.old }
     {
@@ -92,12 +95,12 @@ impl Owner {
         }
     }
 
-    fn refused(&self, member: u64, qualifier: u16) -> OwnerReply
-        ensures { result ≡ refused self.now.history member qualifier }
+    fn refused(&self, member: u64, qualifier: Qualifier) -> OwnerReply
+        ensures { result ≡ refused self.now.history member (qualifier_number qualifier) }
     {
         OwnerReply::Refused {
-            status: EINVAL,
-            qualifier,
+            status: Status::Einval.number(),
+            qualifier: qualifier.number(),
             floor: self.floor_of(member),
         }
     }
@@ -119,7 +122,7 @@ impl Owner {
             },
             Body::Use { bits } => {
                 if bits > SUPPORTED_LIST {
-                    self.refused(member, INVALID_FIELD)
+                    self.refused(member, Qualifier::InvalidField)
                 } else {
                     OwnerReply::Used
                 }
@@ -131,10 +134,10 @@ impl Owner {
                         command,
                     }
                 } else {
-                    self.refused(member, INVALID_MEMBER)
+                    self.refused(member, Qualifier::InvalidMember)
                 }
             }
-            Body::Unknown => self.refused(member, INVALID_OPCODE),
+            Body::Unknown => self.refused(member, Qualifier::InvalidOpcode),
         }
     }
 
@@ -144,10 +147,10 @@ impl Owner {
     {
         let command = read_header(bytes);
         if command.group_type != SR_IOV {
-            return self.refused(command.member, INVALID_GROUP);
+            return self.refused(command.member, Qualifier::InvalidGroup);
         }
         if command.opcode > LEGACY_NOTIFY_INFO || !self.is_used(command.opcode) {
-            return self.refused(command.member, INVALID_OPCODE);
+            return self.refused(command.member, Qualifier::InvalidOpcode);
         }
         self.verdict_on(command.member, read_body(&command, bytes, writable))
     }

@@ -1,31 +1,14 @@
 //! What the owner keeps after one call more, for whatever history it was right before.
 ghost use Rattle.std.specs.Prelude.{◌≡◌, ◌-◌, ◌<◌, ◌≤◌, ◌∷◌, ℕ, List, slice_index};
-ghost use Rattle.admin_wire.specs.Command.{list_of};
 ghost use Rattle.board_text.specs.Floors.{number_for};
-ghost use Rattle.group_calls.specs.Limits.{group_limit};
+ghost use Rattle.byte_fields.specs.Sizes.{guest_limit};
 ghost use Rattle.group_calls.specs.declared.owner.OwnerReply.{OwnerReply};
 ghost use Rattle.group_calls.specs.Owner.{OwnerEntry, vf_count, list_in_use};
 ghost use Rattle.owner_core.specs.Kept.{AreFloors, AreAway, AreNear};
 
-use board_text::{FLOOR_LIMIT, Floors, Piece};
-use byteorder::{ByteOrder, LittleEndian};
+use admin_wire::read_list;
+use board_text::{FLOOR_LIMIT, Floors};
 use group_calls::{OwnerCall, OwnerReply};
-
-// Where the list of a LIST_USE stands in its command, and where it ends.
-const LIST_FROM: usize = 24;
-
-const LIST_TO: usize = 32;
-
-// The first word of a command's list; missing bytes are zeros.
-fn read_list(bytes: &Piece) -> u64
-    ensures { result ≡ list_of bytes.now }
-{
-    let bytes = bytes.as_slice();
-    let mut word = [0; LIST_TO];
-    let length = bytes.len().min(LIST_TO);
-    word[..length].copy_from_slice(&bytes[..length]);
-    LittleEndian::read_u64(&word[LIST_FROM..])
-}
 
 /// The number of virtual functions.
 pub(crate) fn count_after(count: u32, call: &OwnerCall) -> u32
@@ -54,7 +37,7 @@ pub(crate) fn in_use_after(in_use: u64, call: &OwnerCall, reply: &OwnerReply) ->
 
 // The floors of a Reset, one for each member.
 fn spread(floors: &Floors) -> [u64; FLOOR_LIMIT]
-    ensures { (m : ℕ) → 0 < m → m ≤ group_limit → slice_index result (m - 1) ≡ number_for m floors.now }
+    ensures { (m : ℕ) → 0 < m → m ≤ guest_limit → slice_index result (m - 1) ≡ number_for m floors.now }
 {
     let mut told = [0; FLOOR_LIMIT];
     for at in 0..FLOOR_LIMIT {

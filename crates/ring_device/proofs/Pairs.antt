@@ -4,7 +4,7 @@ use Rattle.std.specs.Prelude.{◌&&◌, ◌||◌, not, option_map, if◌then◌e
 use Rattle.std.proofs.lemmas.Bool.Decides.{nat_tests}
 use Rattle.std.proofs.lemmas.Grind.{common_steps}
 use Rattle.ring_layout.specs.declared.layout.Layout.{Layout}
-use Rattle.ring_layout.specs.Layout.{is_ring_size}
+use Rattle.byte_fields.specs.Sizes.{is_queue_size}
 use Rattle.ring_layout.specs.declared.descriptor.Descriptor.{Descriptor}
 use Rattle.ring_layout.specs.Chain.{descriptor, has_next, is_written, available}
 use Rattle.ring_device.specs.Buffers.{chain_buffers}
@@ -16,7 +16,7 @@ use Rattle.ring_device.proofs.Walked.{walked, walked_chain, under}
 use Rattle.ring_device.proofs.Steps.{stands, taken, none_taken}
 
 -- a ring has room for a pair
-pub two_at_least : (size : ℕ) → is_ring_size size ≡ true → size ≡ suc (suc (size - 2))
+pub two_at_least : (size : ℕ) → is_queue_size size ≡ true → size ≡ suc (suc (size - 2))
 two_at_least size ring = let four : 4 ≤ size = grind (arith, nat_tests, common_steps, ring) in omega arith
 
 -- ---- lists of buffers that are no pair

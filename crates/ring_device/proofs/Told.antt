@@ -3,7 +3,8 @@ use Rattle.std.proofs.Common.{◌≡◌, ℕ, ◌≤◌, ◌<◌, true, false, L
 use Rattle.std.specs.Prelude.{◌==◌, nat_lt, option_map}
 use Rattle.std.proofs.lemmas.Bool.Decides.{nat_tests}
 use Rattle.ring_layout.specs.declared.layout.Layout.{Layout}
-use Rattle.ring_layout.specs.Chain.{available, buffers, chain_at, gap, found, found_chain, nothing, bad_index}
+use Rattle.ring_layout.specs.declared.descriptor.Descriptor.{Descriptor}
+use Rattle.ring_layout.specs.Chain.{available, chain_at, gap, found, found_chain, nothing, bad_index}
 use Rattle.ring_device.specs.Buffers.{Buffers, chain_buffers}
 use Rattle.ring_device.specs.Answer.{told, answer}
 use Rattle.ring_device.specs.Pair.{pair_in, pair_told, pair_answer}
@@ -34,11 +35,11 @@ found_as_chain mem l pos some h =
 
 -- ---- what is told of a chain and of none
 
-told_chain : (mem : List ℕ) (l : Layout) (pos : ℕ) (o : Option (List ℕ)) (v : Buffers) → Some v ≡ option_map (λ c. record { head = available mem l pos; parts = buffers mem l c }) o → told mem l pos (found_chain o) ≡ Chain v
+told_chain : (mem : List ℕ) (l : Layout) (pos : ℕ) (o : Option (List Descriptor)) (v : Buffers) → Some v ≡ option_map (λ c. record { head = available mem l pos; parts = c }) o → told mem l pos (found_chain o) ≡ Chain v
 told_chain mem l pos None v h = cc
-told_chain mem l pos (Some c) v h = let e : v ≡ record { head = available mem l pos; parts = buffers mem l c } = cc in ap Chain (sym e)
+told_chain mem l pos (Some c) v h = let e : v ≡ record { head = available mem l pos; parts = c } = cc in ap Chain (sym e)
 
-told_none : (mem : List ℕ) (l : Layout) (pos : ℕ) (o : Option (List ℕ)) → (let none : Option Buffers = None in none ≡ option_map (λ c. record { head = available mem l pos; parts = buffers mem l c }) o) → told mem l pos (found_chain o) ≡ Bad BrokenChain
+told_none : (mem : List ℕ) (l : Layout) (pos : ℕ) (o : Option (List Descriptor)) → (let none : Option Buffers = None in none ≡ option_map (λ c. record { head = available mem l pos; parts = c }) o) → told mem l pos (found_chain o) ≡ Bad BrokenChain
 told_none mem l pos None h = refl
 told_none mem l pos (Some c) h = cc
 
@@ -56,7 +57,7 @@ answers_broken mem l pos some fits h = sym (ap (told mem l pos) (found_as_chain 
 
 -- ---- what is told of a pair
 
-told_pair : (mem : List ℕ) (l : Layout) (pos : ℕ) (o : Option (List ℕ)) → pair_in (option_map (λ c. record { head = available mem l pos; parts = buffers mem l c }) o) ≡ pair_told mem l pos (found_chain o)
+told_pair : (mem : List ℕ) (l : Layout) (pos : ℕ) (o : Option (List Descriptor)) → pair_in (option_map (λ c. record { head = available mem l pos; parts = c }) o) ≡ pair_told mem l pos (found_chain o)
 told_pair mem l pos None = refl
 told_pair mem l pos (Some c) = refl
 

@@ -1,7 +1,7 @@
 -- What a device is told of a position. Of this project.
 use Rattle.std.specs.Prelude.{ℕ, List}
 use Rattle.ring_layout.specs.declared.layout.Layout.{Layout}
-use Rattle.ring_layout.specs.Chain.{buffers, available, found, Found as RingFound, nothing, bad_index, bad_chain, chain as a_chain}
+use Rattle.ring_layout.specs.Chain.{available, found, Found as RingFound, nothing, bad_index, bad_chain, chain as a_chain}
 use Rattle.ring_device.specs.Buffers.{LieIn}
 use Rattle.ring_device.specs.declared.next.Found.{Found}
 use Rattle.ring_device.specs.declared.next.Found.TheVariants.{Chain, Empty, Bad}
@@ -12,7 +12,7 @@ abbrev pub told : List ℕ → Layout → ℕ → RingFound → Found
 told mem l pos nothing = Empty
 told mem l pos bad_index = Bad Index
 told mem l pos bad_chain = Bad BrokenChain
-told mem l pos (a_chain c) = Chain record { head = available mem l pos; parts = buffers mem l c }
+told mem l pos (a_chain c) = Chain record { head = available mem l pos; parts = c }
 
 abbrev pub answer : List ℕ → Layout → ℕ → Found
 answer mem l pos = told mem l pos (found mem l pos)

@@ -3,7 +3,7 @@ use Rattle.std.specs.Prelude.{◌≡◌, true, ℕ, List, Option, option_map}
 use Rattle.std.specs.List.{list_all}
 use Rattle.ring_layout.specs.declared.layout.Layout.{Layout}
 use Rattle.ring_layout.specs.declared.descriptor.Descriptor.{Descriptor}
-use Rattle.ring_layout.specs.Chain.{is_inside, available, buffers, chain_at}
+use Rattle.ring_layout.specs.Chain.{is_inside, available, chain_at}
 
 -- the index of the first descriptor, and the buffers in order
 pub record Buffers : Type 0 where
@@ -16,4 +16,4 @@ LieIn memory parts = list_all (is_inside memory) parts ≡ true
 
 -- the head and the buffers of the chain at a position, if there is one
 abbrev pub chain_buffers : List ℕ → Layout → ℕ → Option Buffers
-chain_buffers mem l pos = option_map (λ c. record { head = available mem l pos; parts = buffers mem l c }) (chain_at mem l pos)
+chain_buffers mem l pos = option_map (λ c. record { head = available mem l pos; parts = c }) (chain_at mem l pos)

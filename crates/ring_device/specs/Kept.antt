@@ -1,7 +1,7 @@
 -- What a chain keeps beside its buffers: at most 256 of them, how many bytes they have of either kind, and that no
 -- buffer is longer than the largest memory. Of this project.
 use Rattle.std.specs.Prelude.{◌≡◌, ◌+◌, ◌*◌, ◌≤◌, length}
-use Rattle.guest_mem.specs.Pages.{memory_limit}
+use Rattle.byte_fields.specs.Sizes.{memory_limit}
 use Rattle.ring_layout.specs.Chain.{total_length, readable_part, writable_part}
 use Rattle.ring_device.specs.declared.chain.Chain.TheInside.{Inside}
 

@@ -2,7 +2,7 @@
 use Rattle.std.specs.Prelude.{ℕ, ◌+◌, ◌≤◌, not, ◌&&◌, List, [], ◌∷◌, Option, None, Some, if◌then◌else◌}
 use Rattle.ring_layout.specs.declared.layout.Layout.{Layout}
 use Rattle.ring_layout.specs.declared.descriptor.Descriptor.{Descriptor}
-use Rattle.ring_layout.specs.Chain.{is_written, buffers, available, found, Found as RingFound, nothing, bad_index, bad_chain, chain as a_chain}
+use Rattle.ring_layout.specs.Chain.{is_written, available, found, Found as RingFound, nothing, bad_index, bad_chain, chain as a_chain}
 use Rattle.ring_device.specs.Buffers.{Buffers}
 use Rattle.ring_device.specs.declared.pair.PairFound.{PairFound}
 use Rattle.ring_device.specs.declared.pair.PairFound.TheVariants.{Pair, Empty, Other}
@@ -22,7 +22,7 @@ abbrev pub pair_told : List ℕ → Layout → ℕ → RingFound → PairFound
 pair_told mem l pos nothing = Empty
 pair_told mem l pos bad_index = Other
 pair_told mem l pos bad_chain = Other
-pair_told mem l pos (a_chain c) = pair_of (available mem l pos) (buffers mem l c)
+pair_told mem l pos (a_chain c) = pair_of (available mem l pos) c
 
 abbrev pub pair_answer : List ℕ → Layout → ℕ → PairFound
 pair_answer mem l pos = pair_told mem l pos (found mem l pos)

@@ -1,6 +1,6 @@
 //! Along a chain, one descriptor after another (VIRTIO 1.3, 2.7.5).
 ghost use Rattle.std.specs.Prelude.{◌≡◌, ◌≤◌, true, length, IfOk, IfSome, ◌||◌};
-ghost use Rattle.guest_mem.specs.Pages.{memory_limit};
+ghost use Rattle.byte_fields.specs.Sizes.{memory_limit};
 ghost use Rattle.ring_layout.specs.Layout.{LiesIn};
 ghost use Rattle.ring_layout.specs.Chain.{is_written};
 ghost use Rattle.ring_device.specs.Buffers.{LieIn, chain_buffers};

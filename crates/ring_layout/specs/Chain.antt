@@ -1,5 +1,5 @@
 -- Chains of descriptors in a split virtqueue: VIRTIO 1.3, 2.7. A memory is a list of bytes.
-use Rattle.std.specs.Prelude.{ℕ, zero, suc, ◌+◌, ◌-◌, ◌*◌, ◌%◌, ◌==◌, nat_lt, nat_le, Bool, true, false, not, ◌&&◌, ◌||◌, List, [], ◌∷◌, ◌++◌, Option, None, Some, length, take, drop, map, filter, if◌then◌else◌}
+use Rattle.std.specs.Prelude.{◌≡◌, ℕ, zero, suc, ◌+◌, ◌-◌, ◌*◌, ◌%◌, ◌<◌, ◌≤◌, ◌==◌, nat_lt, nat_le, Bool, true, false, not, ◌&&◌, ◌||◌, List, [], ◌∷◌, ◌++◌, Option, None, Some, option_map, length, take, drop, filter, if◌then◌else◌}
 use Rattle.std.specs.Int.RustNames.{bit_and}
 use Rattle.std.specs.List.{list_all, flat_map, sum_by}
 use Rattle.byte_fields.specs.Places.{le16, le32, le64, bytes_at, overwrite, bytes_of}
@@ -41,53 +41,57 @@ gap mem l pos = (le16 (l.avail + 2) mem + (index_modulus - pos)) % index_modulus
 abbrev pub is_inside : ℕ → Descriptor → Bool
 is_inside memory d = nat_le (d.addr + d.len) memory
 
--- an index below the ring's size, of a buffer in memory without INDIRECT (2.7.5.3: no such feature is offered)
-abbrev pub is_buffer : List ℕ → Layout → ℕ → Bool
-is_buffer mem l i = nat_lt i l.size && is_inside (length mem) (descriptor mem l i) && not (is_indirect (descriptor mem l i))
+-- a buffer in memory without INDIRECT (2.7.5.3: no such feature is offered)
+abbrev pub is_buffer : ℕ → Descriptor → Bool
+is_buffer memory d = is_inside memory d && not (is_indirect d)
 
--- each index but the last has NEXT and names its follower, and the last has no NEXT: 2.7.5
-abbrev pub is_linked : List ℕ → Layout → List ℕ → Bool
-is_linked mem l [] = false
-is_linked mem l (i ∷ []) = not (has_next (descriptor mem l i))
-is_linked mem l (i ∷ j ∷ rest) = has_next (descriptor mem l i) && ((descriptor mem l i).next == j) && is_linked mem l (j ∷ rest)
-
--- the same test by index
-abbrev pub is_written_at : List ℕ → Layout → ℕ → Bool
-is_written_at mem l i = is_written (descriptor mem l i)
+-- the descriptors that follow one another from an index on: each stands in the table at its index, each but the last has
+-- NEXT and names the index of its follower, and the last has no NEXT: 2.7.5
+abbrev pub AreLinked : List ℕ → Layout → ℕ → List Descriptor → Type 0
+AreLinked mem l i [] = ⊥
+AreLinked mem l i (d ∷ []) = (i < l.size) × (d ≡ descriptor mem l i) × (has_next d ≡ false)
+AreLinked mem l i (d ∷ e ∷ rest) = (i < l.size) × (d ≡ descriptor mem l i) × (has_next d ≡ true) × AreLinked mem l d.next (e ∷ rest)
 
 -- none without WRITE follows one with WRITE: 2.7.4
-abbrev pub is_ordered : List ℕ → Layout → List ℕ → Bool
-is_ordered mem l [] = true
-is_ordered mem l (i ∷ rest) = (not (is_written_at mem l i) || list_all (is_written_at mem l) rest) && is_ordered mem l rest
+abbrev pub is_ordered : List Descriptor → Bool
+is_ordered [] = true
+is_ordered (d ∷ rest) = (not (is_written d) || list_all is_written rest) && is_ordered rest
 
--- the indices are a chain whose head stands at the position: at least one, and at most as many as the ring has
--- descriptors, so none is met twice on a loop; of this project, over 2.7.5
-abbrev pub is_chain : List ℕ → Layout → ℕ → List ℕ → Bool
-is_chain mem l pos [] = false
-is_chain mem l pos (i ∷ rest) =
-    (i == available mem l pos) && nat_le (length (i ∷ rest)) l.size && is_linked mem l (i ∷ rest)
-    && list_all (is_buffer mem l) (i ∷ rest) && is_ordered mem l (i ∷ rest)
+-- the descriptors are a chain whose head stands at the position: at most as many as the ring has, so none is met twice on
+-- a loop; of this project, over 2.7.5
+pub record IsChain (mem : List ℕ) (l : Layout) (pos : ℕ) (c : List Descriptor) : Type 0 where
+  pub linked : AreLinked mem l (available mem l pos) c
+  pub few : length c ≤ l.size
+  pub buffers : list_all (is_buffer (length mem)) c ≡ true
+  pub ordered : is_ordered c ≡ true
 
--- at most n indices, each named by the one before: no other list can be a chain; of this project
-abbrev pub followed : List ℕ → Layout → ℕ → ℕ → List ℕ
-followed mem l zero i = []
-followed mem l (suc n) i = i ∷ (if has_next (descriptor mem l i) then followed mem l n (descriptor mem l i).next else [])
+-- the descriptors from an index on, if at most n follow one another; of this project
+abbrev pub followed : List ℕ → Layout → ℕ → ℕ → Option (List Descriptor)
+followed mem l zero i = None
+followed mem l (suc n) i =
+    if not (nat_lt i l.size) then None
+    else if has_next (descriptor mem l i) then option_map (λ rest. descriptor mem l i ∷ rest) (followed mem l n (descriptor mem l i).next)
+    else Some (descriptor mem l i ∷ [])
 
--- the chain at a position, if there is one; of this project
-unfoldable pub chain_at : List ℕ → Layout → ℕ → Option (List ℕ)
-chain_at mem l pos =
-    let c : List ℕ = followed mem l l.size (available mem l pos) in
-    if is_chain mem l pos c then Some c else None
+-- those of a memory of this length that are buffers in order; of this project
+abbrev pub sound : ℕ → Option (List Descriptor) → Option (List Descriptor)
+sound memory None = None
+sound memory (Some c) = if list_all (is_buffer memory) c && is_ordered c then Some c else None
 
--- what a device finds at a position: no entry, an index that is off, an entry that is no chain, or a chain; of this project
+-- the chain at a position, if there is one: no other list can be one; of this project
+unfoldable pub chain_at : List ℕ → Layout → ℕ → Option (List Descriptor)
+chain_at mem l pos = sound (length mem) (followed mem l l.size (available mem l pos))
+
+-- what a device finds at a position: no entry, an index that is off, an entry that is no chain, or a chain's descriptors;
+-- of this project
 pub data Found : Type 0 where
   nothing : Found
   bad_index : Found
   bad_chain : Found
-  chain : List ℕ → Found
+  chain : List Descriptor → Found
 
 -- the last two of these
-abbrev pub found_chain : Option (List ℕ) → Found
+abbrev pub found_chain : Option (List Descriptor) → Found
 found_chain None = bad_chain
 found_chain (Some c) = chain c
 
@@ -97,10 +101,6 @@ found mem l pos =
     if gap mem l pos == 0 then nothing
     else if nat_lt l.size (gap mem l pos) then bad_index
     else found_chain (chain_at mem l pos)
-
--- the buffers of a chain: 2.7.5
-abbrev pub buffers : List ℕ → Layout → List ℕ → List Descriptor
-buffers mem l c = map (descriptor mem l) c
 
 -- the buffers that the device reads and those that it writes, without WRITE and with it: 2.7.5
 abbrev pub readable_part : List Descriptor → List Descriptor

@@ -1,6 +1,7 @@
 //! Where the three parts of a legacy split virtqueue lie (VIRTIO 1.3, 2.7.2).
-ghost use Rattle.std.specs.Prelude.{◌≡◌, ◌≤◌, ◌+◌, ◌^◌, true, IfSome};
-ghost use Rattle.ring_layout.specs.Layout.{LiesIn, is_ring_size, layout_at as layout_of, legacy_layout, next_page as page_after};
+ghost use Rattle.std.specs.Prelude.{◌≡◌, ◌≤◌, ◌<◌, ◌+◌, ◌^◌, true, IfSome};
+ghost use Rattle.byte_fields.specs.Sizes.{is_queue_size, page_size};
+ghost use Rattle.ring_layout.specs.Layout.{LiesIn, layout_at as layout_of, legacy_layout, next_page as page_after};
 
 use guest_mem::PAGE_SIZE;
 
@@ -33,7 +34,7 @@ const RING_FIELDS: u64 = 3;
 fn next_page(addr: u64) -> u64
     requires { addr ≤ 2 ^ 63 }
     ensures value { result ≡ page_after addr }
-    ensures bound { result ≤ addr + 4095 }
+    ensures bound { result < addr + page_size }
 {
     (addr + PAGE_SIZE - 1) / PAGE_SIZE * PAGE_SIZE
 }
@@ -58,7 +59,7 @@ fn layout_at(page: u32, size: u16) -> Layout
 /// The virtqueue of a size at a page, in a memory of so many bytes. The size is a power of two from 4 to 256, as callers
 /// have to show. `None` exactly where the page is 0 or the end passes the memory.
 pub fn legacy(page: u32, size: u16, memory: u64) -> Option<Layout>
-    requires { is_ring_size size ≡ true }
+    requires { is_queue_size size ≡ true }
     ensures value { result ≡ legacy_layout page size memory }
     ensures inside { IfSome result (LiesIn memory) }
 {

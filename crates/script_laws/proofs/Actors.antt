@@ -9,21 +9,19 @@ use Rattle.script_words.specs.declared.shape.Shape.TheVariants as line
 use Rattle.script_words.specs.declared.words.Head.{Head}
 use Rattle.script_words.specs.declared.words.Head.TheVariants as head
 use Rattle.script_words.specs.Words.{are_words, head_of}
-use Rattle.script_words.specs.Shape.{form, form_at, guest_form, worker_form, host_form}
-use Rattle.script_words.specs.Values.{◌>>=◌}
-use Rattle.board_script.specs.declared.draft.Use.TheVariants as use_of
+use Rattle.script_words.specs.Parts.{form}
+use Rattle.script_words.specs.Shape.{form_at, guest_form, worker_form, host_form}
 use Rattle.board_script.specs.declared.script.ActorLine.{ActorLine}
 use Rattle.board_script.specs.declared.script.Board.{Board}
 use Rattle.board_script.specs.declared.script.Setup.{Setup}
 use Rattle.board_script.specs.declared.script.What.{What}
 use Rattle.board_script.specs.Limits.{first_worker, the_host}
-use Rattle.board_script.specs.Rows.{act_row, made_by}
-use Rattle.board_script.specs.Script.{with_line, with_text}
+use Rattle.board_script.specs.Script.{with_text}
+use Rattle.board_script.specs.Shapes.{act_says}
 use Rattle.script_writer.specs.Written.{actor_word, what_words}
 use Rattle.script_laws.proofs.Numbers.{plain_number, number_digits}
-use Rattle.script_laws.proofs.Values.{then_ok}
 use Rattle.script_laws.proofs.Lines.{line_of}
-use Rattle.script_laws.proofs.Steps.{so_far, line_again}
+use Rattle.script_laws.proofs.Steps.{place_of, so_far, line_again}
 
 -- ---- the word of an actor
 
@@ -47,26 +45,23 @@ worker_word n le lt =
     ∙ ap (λ (t : Bool). cond t (119 ∷ decimal (n - first_worker)) (103 ∷ decimal n)) (from_low n first_worker le)
 
 pub guest_head : (n : ℕ) → n < 2 ^ 64 → head_of (103 ∷ decimal n) ≡ head.Guest (decimal n)
-guest_head n lt = ap (λ (b : Bool). cond b (head.Guest (decimal n)) head.Name) (number_digits n lt)
+guest_head n lt = ap (λ (b : Bool). cond b (head.Guest (decimal n)) (head.Name (103 ∷ decimal n))) (number_digits n lt)
 
 pub worker_head : (n : ℕ) → n < 2 ^ 64 → head_of (119 ∷ decimal n) ≡ head.Worker (decimal n)
-worker_head n lt = ap (λ (b : Bool). cond b (head.Worker (decimal n)) head.Name) (number_digits n lt)
+worker_head n lt = ap (λ (b : Bool). cond b (head.Worker (decimal n)) (head.Name (119 ∷ decimal n))) (number_digits n lt)
 
 -- ---- a line of an actor
 
 -- Its words are words, and in whatever script has this board and these guests they say again what they were written for.
 pub record IsSaid (board : Board) (guests : List Setup) (who : ℕ) (does : What) : Type 0 where
   pub words : are_words (actor_word who ∷ what_words does) ≡ true
-  pub again : (number : ℕ) (lines : List ActorLine) → with_text use_of.Group number (so_far board guests lines []) (line_of (actor_word who ∷ what_words does))
+  pub again : (number : ℕ) (lines : List ActorLine) → with_text (place_of number) (so_far board guests lines []) (line_of (actor_word who ∷ what_words does))
       ≡ Ok (so_far board guests (lines ++ record { number = number; who = who; what = does } ∷ []) [])
 
 -- an act says what an actor does, in whatever script has this board and these guests
 abbrev pub IsActOf : Board → List Setup → ℕ → What → Act → Type 0
-IsActOf board guests who does acts = (lines : List ActorLine) → act_row (so_far board guests lines []) acts ≡ Ok (made_by who does)
-
-acts_again : (number : ℕ) (board : Board) (guests : List Setup) (lines : List ActorLine) (who : ℕ) (does : What) (acts : Act) → IsActOf board guests who does acts
-    → (act_row (so_far board guests lines []) acts >>= (λ done. with_line use_of.Group number (so_far board guests lines []) done)) ≡ Ok (so_far board guests (lines ++ record { number = number; who = who; what = does } ∷ []) [])
-acts_again number board guests lines who does acts row = then_ok (act_row (so_far board guests lines []) acts) (made_by who does) (λ done. with_line use_of.Group number (so_far board guests lines []) done) (row lines)
+IsActOf board guests who does acts = (number : ℕ) (lines : List ActorLine) → act_says (place_of number) (so_far board guests lines []) acts
+    ≡ Ok (so_far board guests (lines ++ record { number = number; who = who; what = does } ∷ []) [])
 
 pub guest_says : (board : Board) (guests : List Setup) (who : ℕ) (does : What) (acts : Act) → who < first_worker → are_words (what_words does) ≡ true → guest_form (decimal who) (what_words does) ≡ Some acts
     → IsActOf board guests who does acts → IsSaid board guests who does
@@ -75,10 +70,10 @@ guest_says board guests who does acts lt words form_is row =
     record {
       words = ap (λ (w : List ℕ). are_words (w ∷ what_words does)) (guest_word who lt) ∙ all;
       again = λ number lines.
-          ap (λ (w : List ℕ). with_text use_of.Group number (so_far board guests lines []) (line_of (w ∷ what_words does))) (guest_word who lt)
+          ap (λ (w : List ℕ). with_text (place_of number) (so_far board guests lines []) (line_of (w ∷ what_words does))) (guest_word who lt)
           ∙ line_again number (so_far board guests lines []) 103 (decimal who) (what_words does) (line.Acts acts) refl all
-          (ap (λ (h : Head). form_at h (103 ∷ decimal who) (what_words does)) (guest_head who (omega arith)) ∙ ap (λ (o : Option Act). form o (λ a. line.Acts a)) form_is) refl
-          ∙ acts_again number board guests lines who does acts row;
+          (ap (λ (h : Head). form_at h (what_words does)) (guest_head who (omega arith)) ∙ ap (λ (o : Option Act). form o (λ a. line.Acts a)) form_is)
+          ∙ row number lines;
     }
 
 pub worker_says : (board : Board) (guests : List Setup) (who : ℕ) (does : What) (acts : Act) → first_worker ≤ who → who < the_host → are_words (what_words does) ≡ true
@@ -88,10 +83,10 @@ worker_says board guests who does acts le lt words form_is row =
     record {
       words = ap (λ (w : List ℕ). are_words (w ∷ what_words does)) (worker_word who le lt) ∙ all;
       again = λ number lines.
-          ap (λ (w : List ℕ). with_text use_of.Group number (so_far board guests lines []) (line_of (w ∷ what_words does))) (worker_word who le lt)
+          ap (λ (w : List ℕ). with_text (place_of number) (so_far board guests lines []) (line_of (w ∷ what_words does))) (worker_word who le lt)
           ∙ line_again number (so_far board guests lines []) 119 (decimal (who - first_worker)) (what_words does) (line.Acts acts) refl all
-          (ap (λ (h : Head). form_at h (119 ∷ decimal (who - first_worker)) (what_words does)) (worker_head (who - first_worker) (omega arith)) ∙ ap (λ (o : Option Act). form o (λ a. line.Acts a)) form_is) refl
-          ∙ acts_again number board guests lines who does acts row;
+          (ap (λ (h : Head). form_at h (what_words does)) (worker_head (who - first_worker) (omega arith)) ∙ ap (λ (o : Option Act). form o (λ a. line.Acts a)) form_is)
+          ∙ row number lines;
     }
 
 pub host_says : (board : Board) (guests : List Setup) (does : What) (acts : Act) → are_words (what_words does) ≡ true → host_form (what_words does) ≡ Some acts
@@ -99,6 +94,6 @@ pub host_says : (board : Board) (guests : List Setup) (does : What) (acts : Act)
 host_says board guests does acts words form_is row = record {
   words = words;
   again = λ number lines.
-      line_again number (so_far board guests lines []) 104 (codes "ost") (what_words does) (line.Acts acts) refl words (ap (λ (o : Option Act). form o (λ a. line.Acts a)) form_is) refl
-      ∙ acts_again number board guests lines the_host does acts row;
+      line_again number (so_far board guests lines []) 104 (codes "ost") (what_words does) (line.Acts acts) refl words (ap (λ (o : Option Act). form o (λ a. line.Acts a)) form_is)
+      ∙ row number lines;
 }

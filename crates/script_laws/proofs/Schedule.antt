@@ -12,24 +12,25 @@ use Rattle.script_words.specs.declared.shape.Shape.TheVariants as line
 use Rattle.script_words.specs.declared.words.Head.{Head}
 use Rattle.script_words.specs.declared.words.Head.TheVariants as head
 use Rattle.script_words.specs.Words.{is_word, head_of}
-use Rattle.script_words.specs.Shape.{is_actor_word, form_of}
-use Rattle.script_words.specs.Values.{◌>>=◌, number_in}
+use Rattle.script_words.specs.Parts.{form, is_actor_word}
+use Rattle.script_words.specs.Shape.{form_of}
+use Rattle.script_words.specs.Values.{◌>>=◌, when, number_in}
 use Rattle.board_script.specs.declared.draft.Use.TheVariants as use_of
 use Rattle.board_script.specs.declared.script.ActorLine.{ActorLine}
 use Rattle.board_script.specs.declared.script.Board.{Board}
 use Rattle.board_script.specs.declared.script.Setup.{Setup}
 use Rattle.board_script.specs.declared.script.Turns.{Turns}
 use Rattle.board_script.specs.Limits.{first_worker, the_host, turns_limit}
-use Rattle.board_script.specs.SoFar.{SoFar, worker_at}
+use Rattle.board_script.specs.SoFar.{SoFar, worker_at, scheduled}
 use Rattle.board_script.specs.Bounds.{IsGuest, IsWorker, IsActor, IsTurns, MayAsk}
-use Rattle.board_script.specs.Rows.{actor_at, pair_row, with_pair, with_pairs}
-use Rattle.board_script.specs.Script.{with_text, with_lines, within_limit}
+use Rattle.board_script.specs.Lines.{actor_at, with_pair, with_pairs}
+use Rattle.board_script.specs.Script.{with_text, with_lines}
 use Rattle.script_writer.specs.Written.{actor_word, actor_words, turns_words}
 use Rattle.script_laws.specs.Again.{numbered}
 use Rattle.script_laws.proofs.Numbers.{number_word, plain_number}
 use Rattle.script_laws.proofs.Values.{then_ok, when_holds, upto, number_in_again}
 use Rattle.script_laws.proofs.Lines.{line_of, is_line}
-use Rattle.script_laws.proofs.Steps.{so_far, line_again, one_line}
+use Rattle.script_laws.proofs.Steps.{place_of, so_far, line_again, one_line}
 use Rattle.script_laws.proofs.Actors.{guest_word, worker_word, guest_head, worker_head}
 use Rattle.script_laws.proofs.Whats.{IsMade, few_guests, guest_again, worker_again, is_who, says}
 
@@ -68,7 +69,7 @@ actors_again number board guests before (line ∷ lines) rest made all =
 -- the word of an actor is one, and names the actor
 pub record IsNamed (board : Board) (guests : List Setup) (who : ℕ) : Type 0 where
   pub word : is_word (actor_word who) ≡ true
-  pub actor : is_actor_word (head_of (actor_word who)) (actor_word who) ≡ true
+  pub actor : is_actor_word (head_of (actor_word who)) ≡ true
   pub named : (lines : List ActorLine) (turns : List Turns) → actor_at (record { board = Some board; guests = guests; lines = lines; turns = turns }) (head_of (actor_word who)) ≡ Ok who
 
 guest_named : (board : Board) (guests : List Setup) (who : ℕ) → IsMade board guests → IsGuest guests who → IsNamed board guests who
@@ -78,7 +79,7 @@ guest_named board guests who made is =
     let read : head_of (103 ∷ decimal who) ≡ head.Guest (decimal who) = guest_head who (omega arith) in
     record {
       word = ap is_word spelt ∙ plain_number who (omega arith);
-      actor = ap (λ (w : List ℕ). is_actor_word (head_of w) w) spelt ∙ ap (λ (h : Head). is_actor_word h (103 ∷ decimal who)) read;
+      actor = ap (λ (w : List ℕ). is_actor_word (head_of w)) spelt ∙ ap is_actor_word read;
       named = λ lines turns.
           ap (λ (w : List ℕ). actor_at (so_far board guests lines turns) (head_of w)) spelt ∙ ap (actor_at (so_far board guests lines turns)) read ∙ guest_again board guests lines who made.few is;
     }
@@ -90,7 +91,7 @@ worker_named board guests who made is =
     let read : head_of (119 ∷ decimal (who - first_worker)) ≡ head.Worker (decimal (who - first_worker)) = worker_head (who - first_worker) (omega arith) in
     record {
       word = ap is_word spelt ∙ plain_number (who - first_worker) (omega arith);
-      actor = ap (λ (w : List ℕ). is_actor_word (head_of w) w) spelt ∙ ap (λ (h : Head). is_actor_word h (119 ∷ decimal (who - first_worker))) read;
+      actor = ap (λ (w : List ℕ). is_actor_word (head_of w)) spelt ∙ ap is_actor_word read;
       named = λ lines turns.
           ap (λ (w : List ℕ). actor_at (so_far board guests lines turns) (head_of w)) spelt ∙ ap (actor_at (so_far board guests lines turns)) read
           ∙ then_ok (worker_at (so_far board guests lines turns) (decimal (who - first_worker))) (who - first_worker) (λ n. Ok (first_worker + n)) (worker_again board guests lines who made.is_board.few_workers is)
@@ -125,23 +126,21 @@ turns_are_lines board guests (first ∷ turns) made all =
     and_from _ _ (turns_is_line board guests first made (all 0 first (omega arith))) (turns_are_lines board guests turns made (rest_of (IsTurns board.workers guests) first turns all))
 
 go_form_again : (board : Board) (guests : List Setup) (turns : Turns) → IsNamed board guests turns.who → form_of (turns_words turns) ≡ Some (line.Go (actor_word turns.who ∷ decimal turns.count ∷ []))
-go_form_again board guests turns is = ap (λ (b : Bool). cond b (Some (line.Go (actor_word turns.who ∷ decimal turns.count ∷ []))) None) (and_from _ true is.actor refl)
+go_form_again board guests turns is = ap (λ (b : Bool). form (cond b (Some (actor_word turns.who ∷ decimal turns.count ∷ [])) None) (λ pairs. line.Go pairs)) (and_from _ true is.actor refl)
 
 pair_said : (board : Board) (guests : List Setup) (lines : List ActorLine) (before : List Turns) (turns : Turns) → IsNamed board guests turns.who → turns.count ≤ turns_limit
     → with_pair (so_far board guests lines before) (actor_word turns.who) (decimal turns.count) ≡ Ok (so_far board guests lines (before ++ turns ∷ []))
 pair_said board guests lines before turns is few =
-    let pair : pair_row (so_far board guests lines before) (actor_word turns.who) (decimal turns.count) ≡ Ok turns =
     then_ok (actor_at (so_far board guests lines before) (head_of (actor_word turns.who))) turns.who _ (is.named lines before)
-    ∙ then_ok (number_in 0 turns_limit (decimal turns.count)) turns.count (λ n. Ok (record { who = turns.who; count = n })) (number_in_again 0 turns_limit turns.count (omega arith) few (omega arith)) in
-    then_ok (pair_row (so_far board guests lines before) (actor_word turns.who) (decimal turns.count)) turns (λ t. Ok (so_far board guests lines (before ++ t ∷ []))) pair
+    ∙ then_ok (number_in 0 turns_limit (decimal turns.count)) turns.count _ (number_in_again 0 turns_limit turns.count (omega arith) few (omega arith))
 
 turns_again_line : (number : ℕ) (board : Board) (guests : List Setup) (lines : List ActorLine) (before : List Turns) (turns : Turns) → IsMade board guests → IsTurns board.workers guests turns → turns_sum (before ++ turns ∷ []) ≤ turns_limit
-    → with_text use_of.Group number (so_far board guests lines before) (line_of (turns_words turns)) ≡ Ok (so_far board guests lines (before ++ turns ∷ []))
+    → with_text (place_of number) (so_far board guests lines before) (line_of (turns_words turns)) ≡ Ok (so_far board guests lines (before ++ turns ∷ []))
 turns_again_line number board guests lines before turns made is within =
     let who = named board guests turns.who made is.actor in
     line_again number (so_far board guests lines before) 103 (111 ∷ []) (actor_word turns.who ∷ decimal turns.count ∷ []) (line.Go (actor_word turns.who ∷ decimal turns.count ∷ [])) refl
-    (turns_is_line board guests turns made is) (go_form_again board guests turns who) refl
-    ∙ ap (λ (r : Result SoFar Cause). (r >>= (λ next. with_pairs next [])) >>= within_limit) (pair_said board guests lines before turns who is.count)
+    (turns_is_line board guests turns made is) (go_form_again board guests turns who)
+    ∙ ap (λ (r : Result SoFar Cause). (r >>= (λ next. with_pairs next [])) >>= (λ next. when (nat_le (scheduled next) turns_limit) cause.Limit next)) (pair_said board guests lines before turns who is.count)
     ∙ when_holds (nat_le (turns_sum (before ++ turns ∷ [])) turns_limit) cause.Limit (so_far board guests lines (before ++ turns ∷ [])) (upto (turns_sum (before ++ turns ∷ [])) turns_limit within)
 
 one_more : (before : List Turns) (turns : Turns) → turns_sum (before ++ turns ∷ []) ≡ turns_sum before + turns.count

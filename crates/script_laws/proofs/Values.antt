@@ -7,9 +7,11 @@ use Rattle.std.proofs.lemmas.Bool.Decides.{nat_tests}
 use Rattle.hex.specs.Hex.{IsBytes, encode_lower}
 use Rattle.board_text.specs.Number.{number_of}
 use Rattle.board_text.specs.Hex.{hex_bytes}
+use Rattle.byte_fields.specs.Sizes.{is_queue_size}
 use Rattle.script_words.specs.declared.cause.Cause.{Cause}
 use Rattle.script_words.specs.declared.cause.Cause.TheVariants as cause
-use Rattle.script_words.specs.Values.{◌>>=◌, when, within, number_in, any_number, is_width, width_at, is_queue_size, queue_size_at, bytes_within, bytes_in, bytes_of_width, among}
+use Rattle.script_words.specs.Values.{◌>>=◌, when, within, number_in, any_number, is_width, width_at, queue_size_at, bytes_within, bytes_in, bytes_of_width, among}
+use Rattle.board_script.specs.Lines.{provided}
 use Rattle.script_laws.proofs.Numbers.{number_again}
 use Rattle.script_laws.proofs.Hexes.{hex_again}
 
@@ -19,6 +21,9 @@ then_ok r x f e = ap (λ (s : Result _ Cause). s >>= f) e
 
 pub when_holds : {A : Type 0} (b : Bool) (otherwise : Cause) (x : A) → b ≡ true → when b otherwise x ≡ Ok x
 when_holds b otherwise x e = ap (λ (c : Bool). cond c (Ok x) (Err otherwise)) e
+
+pub provided_holds : (b : Bool) (otherwise : Cause) → b ≡ true → provided b otherwise ≡ Ok tt
+provided_holds b otherwise e = when_holds b otherwise tt e
 
 pub upto : (a b : ℕ) → a ≤ b → nat_le a b ≡ true
 upto a b le = grind (arith, nat_tests)

@@ -5,27 +5,28 @@ use Rattle.std.specs.List.{All, slice_get}
 use Rattle.std.proofs.lemmas.Bool.{and_from}
 use Rattle.std.proofs.lemmas.List.Folds.{list_all-append}
 use Rattle.hex.specs.Hex.{encode_lower}
+use Rattle.byte_fields.specs.Sizes.{guest_limit, page_limit, page_size, shortest_frame, longest_frame}
 use Rattle.board_text.specs.Number.{number_of}
 use Rattle.board_text.specs.Hex.{hex_bytes}
 use Rattle.script_words.specs.declared.cause.Cause.TheVariants as cause
 use Rattle.script_words.specs.declared.shape.Act.TheVariants as act
 use Rattle.script_words.specs.declared.shape.Tail.{Tail}
 use Rattle.script_words.specs.Words.{is_word, are_words}
-use Rattle.script_words.specs.Shape.{form, tail_of, switch_of}
+use Rattle.script_words.specs.Parts.{form, tail_of, switch_of}
 use Rattle.script_words.specs.Values.{number_in, any_number, width_at, bytes_in, bytes_of_width}
 use Rattle.board_script.specs.declared.script.ActorLine.{ActorLine}
 use Rattle.board_script.specs.declared.script.Board.{Board}
 use Rattle.board_script.specs.declared.script.Setup.{Setup}
 use Rattle.board_script.specs.declared.script.What.{What}
 use Rattle.board_script.specs.declared.script.What.TheVariants as what
-use Rattle.board_script.specs.Limits.{queue_limit, worker_limit, guest_limit, page_limit, page_size, first_worker, the_host, offset_limit, range_limit, index_limit, frame_least, frame_limit}
+use Rattle.board_script.specs.Limits.{queue_limit, worker_limit, first_worker, the_host, offset_limit, range_limit, index_limit}
 use Rattle.board_script.specs.SoFar.{guest_at, worker_at, queue_at, bytes_at, memory_of, is_net}
 use Rattle.board_script.specs.Bounds.{IsBoard, IsSetup, IsGuest, IsWorker, IsQueue, MayAsk}
-use Rattle.board_script.specs.Rows.{made_by, queue_named}
+use Rattle.board_script.specs.Lines.{provided, queue_named}
 use Rattle.script_writer.specs.Written.{at_words, once_words, switch_word}
 use Rattle.script_laws.proofs.Numbers.{number_word, plain_number}
 use Rattle.script_laws.proofs.Hexes.{hex_word}
-use Rattle.script_laws.proofs.Values.{then_ok, when_holds, upto, number_in_again, any_number_again, among_again, width_fits, width_again, bytes_in_again, short_bytes_again}
+use Rattle.script_laws.proofs.Values.{then_ok, provided_holds, upto, number_in_again, any_number_again, among_again, width_fits, width_again, bytes_in_again, short_bytes_again}
 use Rattle.script_laws.proofs.Steps.{so_far}
 use Rattle.script_laws.proofs.Actors.{IsSaid, guest_says, worker_says, host_says}
 
@@ -61,9 +62,12 @@ queue_said board guests lines None few is = refl
 queue_said board guests lines (Some queue) few is =
     then_ok (queue_at (so_far board guests lines []) (decimal queue)) queue (λ q. Ok (Some q)) (among_again 0 board.queues queue (omega arith) is (omega arith))
 
+abbrev behind : List ℕ → List ℕ → Tail → List ℕ × List ℕ × Tail
+behind offset word tail = (offset, word, tail)
+
 -- ---- `on` and `off`
 
-switch_again : (on : Bool) → switch_of (Some (switch_word on)) ≡ Some on
+switch_again : (on : Bool) → switch_of (switch_word on ∷ []) ≡ Some on
 switch_again true = refl
 switch_again false = refl
 
@@ -107,8 +111,8 @@ in_says board guests who offset length_ queue once made may =
     let wide = (width_fits length_ may.2).1 in
     guest_says board guests who (what.BarRead offset length_ queue once) (act.In (decimal who) (decimal offset) (decimal length_) (tail_at queue once)) (omega arith)
     (and_from _ _ (number_word offset (omega arith)) (and_from _ _ (number_word length_ (omega arith)) (tail_are_words board.queues queue once made.is_board.few_queues may.3)))
-    (ap (λ (o : Option Tail). form o (λ t. act.In (decimal who) (decimal offset) (decimal length_) t)) (tail_again queue once))
-    (λ lines.
+    (ap (λ (o : Option Tail). form (form o (behind (decimal offset) (decimal length_))) (λ a. act.In (decimal who) a.0 a.1 a.2)) (tail_again queue once))
+    (λ number lines.
     then_ok (guest_at (so_far board guests lines []) (decimal who)) who _ (guest_again board guests lines who made.few may.0)
     ∙ then_ok (number_in 0 offset_limit (decimal offset)) offset _ (number_in_again 0 offset_limit offset (omega arith) low (omega arith))
     ∙ then_ok (width_at (number_of (decimal length_))) length_ _ (width_again length_ may.2)
@@ -122,8 +126,8 @@ out_says board guests who offset bytes queue once made may =
     let wide = width_fits (length bytes) may.3 in
     guest_says board guests who (what.BarWrite offset bytes queue once) (act.Out (decimal who) (decimal offset) (encode_lower bytes) (tail_at queue once)) (omega arith)
     (and_from _ _ (number_word offset (omega arith)) (and_from _ _ (hex_word bytes may.2 wide.0) (tail_are_words board.queues queue once made.is_board.few_queues may.4)))
-    (ap (λ (o : Option Tail). form o (λ t. act.Out (decimal who) (decimal offset) (encode_lower bytes) t)) (tail_again queue once))
-    (λ lines.
+    (ap (λ (o : Option Tail). form (form o (behind (decimal offset) (encode_lower bytes))) (λ a. act.Out (decimal who) a.0 a.1 a.2)) (tail_again queue once))
+    (λ number lines.
     then_ok (guest_at (so_far board guests lines []) (decimal who)) who _ (guest_again board guests lines who made.few may.0)
     ∙ then_ok (number_in 0 offset_limit (decimal offset)) offset _ (number_in_again 0 offset_limit offset (omega arith) low (omega arith))
     ∙ then_ok (bytes_of_width (hex_bytes (encode_lower bytes))) bytes _ (short_bytes_again bytes may.2 may.3)
@@ -137,11 +141,11 @@ mem_says board guests who addr bytes made may =
     let fits : addr < 2 ^ 64 = omega arith in
     guest_says board guests who (what.Mem addr bytes) (act.Mem (decimal who) (decimal addr) (encode_lower bytes)) (omega arith)
     (and_from _ _ (number_word addr fits) (and_from _ _ (hex_word bytes may.1 may.2) refl)) refl
-    (λ lines.
+    (λ number lines.
     then_ok (guest_at (so_far board guests lines []) (decimal who)) who _ (guest_again board guests lines who made.few may.0)
     ∙ then_ok (any_number (number_of (decimal addr))) addr _ (any_number_again addr fits)
     ∙ then_ok (bytes_in 1 range_limit (encode_lower bytes)) bytes _ (bytes_in_again 1 range_limit bytes may.1 may.2 may.2 may.3)
-    ∙ when_holds (nat_le (addr + length bytes) (memory_of guests who)) cause.Range _ (upto (addr + length bytes) (memory_of guests who) inside))
+    ∙ then_ok (provided (nat_le (addr + length bytes) (memory_of guests who)) cause.Range) tt _ (provided_holds _ cause.Range (upto (addr + length bytes) (memory_of guests who) inside)))
 
 peek_says : (board : Board) (guests : List Setup) (who addr length_ : ℕ) → IsMade board guests → MayAsk board.queues board.workers guests who (what.Peek addr length_) → IsSaid board guests who (what.Peek addr length_)
 peek_says board guests who addr length_ made may =
@@ -152,23 +156,23 @@ peek_says board guests who addr length_ made may =
     let short : length_ ≤ range_limit = may.2 in
     guest_says board guests who (what.Peek addr length_) (act.Peek (decimal who) (decimal addr) (decimal length_)) (omega arith)
     (and_from _ _ (number_word addr fits) (and_from _ _ (number_word length_ (omega arith)) refl)) refl
-    (λ lines.
+    (λ number lines.
     then_ok (guest_at (so_far board guests lines []) (decimal who)) who _ (guest_again board guests lines who made.few may.0)
     ∙ then_ok (any_number (number_of (decimal addr))) addr _ (any_number_again addr fits)
     ∙ then_ok (number_in 1 range_limit (decimal length_)) length_ _ (number_in_again 1 range_limit length_ may.1 short (omega arith))
-    ∙ when_holds (nat_le (addr + length_) (memory_of guests who)) cause.Range _ (upto (addr + length_) (memory_of guests who) inside))
+    ∙ then_ok (provided (nat_le (addr + length_) (memory_of guests who)) cause.Range) tt _ (provided_holds _ cause.Range (upto (addr + length_) (memory_of guests who) inside)))
 
 msix_says : (board : Board) (guests : List Setup) (who : ℕ) (on : Bool) → IsMade board guests → IsGuest guests who → IsSaid board guests who (what.Msix on)
 msix_says board guests who on made is =
     let few = few_guests guests who made.few is in
     guest_says board guests who (what.Msix on) (act.Msix (decimal who) on) (omega arith) (switch_are_words on) (ap (λ (o : Option Bool). form o (λ b. act.Msix (decimal who) b)) (switch_again on))
-    (λ lines. then_ok (guest_at (so_far board guests lines []) (decimal who)) who _ (guest_again board guests lines who made.few is))
+    (λ number lines. then_ok (guest_at (so_far board guests lines []) (decimal who)) who _ (guest_again board guests lines who made.few is))
 
 io_says : (board : Board) (guests : List Setup) (who : ℕ) (on : Bool) → IsMade board guests → IsGuest guests who → IsSaid board guests who (what.Io on)
 io_says board guests who on made is =
     let few = few_guests guests who made.few is in
     guest_says board guests who (what.Io on) (act.Io (decimal who) on) (omega arith) (switch_are_words on) (ap (λ (o : Option Bool). form o (λ b. act.Io (decimal who) b)) (switch_again on))
-    (λ lines. then_ok (guest_at (so_far board guests lines []) (decimal who)) who _ (guest_again board guests lines who made.few is))
+    (λ number lines. then_ok (guest_at (so_far board guests lines []) (decimal who)) who _ (guest_again board guests lines who made.few is))
 
 cfg_says : (board : Board) (guests : List Setup) (who offset length_ : ℕ) → IsMade board guests → MayAsk board.queues board.workers guests who (what.Cfg offset length_) → IsSaid board guests who (what.Cfg offset length_)
 cfg_says board guests who offset length_ made may =
@@ -177,7 +181,7 @@ cfg_says board guests who offset length_ made may =
     let wide = (width_fits length_ may.2).1 in
     guest_says board guests who (what.Cfg offset length_) (act.Cfg (decimal who) (decimal offset) (decimal length_)) (omega arith)
     (and_from _ _ (number_word offset (omega arith)) (and_from _ _ (number_word length_ (omega arith)) refl)) refl
-    (λ lines.
+    (λ number lines.
     then_ok (guest_at (so_far board guests lines []) (decimal who)) who _ (guest_again board guests lines who made.few may.0)
     ∙ then_ok (number_in 0 offset_limit (decimal offset)) offset _ (number_in_again 0 offset_limit offset (omega arith) low (omega arith))
     ∙ then_ok (width_at (number_of (decimal length_))) length_ _ (width_again length_ may.2))
@@ -185,14 +189,14 @@ cfg_says board guests who offset length_ made may =
 irqs_says : (board : Board) (guests : List Setup) (who : ℕ) → IsMade board guests → IsGuest guests who → IsSaid board guests who what.Irqs
 irqs_says board guests who made is =
     let few = few_guests guests who made.few is in
-    guest_says board guests who what.Irqs (act.Irqs (decimal who)) (omega arith) refl refl (λ lines. then_ok (guest_at (so_far board guests lines []) (decimal who)) who _ (guest_again board guests lines who made.few is))
+    guest_says board guests who what.Irqs (act.Irqs (decimal who)) (omega arith) refl refl (λ number lines. then_ok (guest_at (so_far board guests lines []) (decimal who)) who _ (guest_again board guests lines who made.few is))
 
 poll_says : (board : Board) (guests : List Setup) (who queue : ℕ) → IsMade board guests → MayAsk board.queues board.workers guests who (what.Poll queue) → IsSaid board guests who (what.Poll queue)
 poll_says board guests who queue made may =
     let few = few_guests guests who made.few may.0 in
     let low : queue ≤ index_limit = may.1 in
     guest_says board guests who (what.Poll queue) (act.Poll (decimal who) (decimal queue)) (omega arith) (and_from _ _ (number_word queue (omega arith)) refl) refl
-    (λ lines.
+    (λ number lines.
     then_ok (guest_at (so_far board guests lines []) (decimal who)) who _ (guest_again board guests lines who made.few may.0)
     ∙ then_ok (number_in 0 index_limit (decimal queue)) queue _ (number_in_again 0 index_limit queue (omega arith) low (omega arith)))
 
@@ -204,10 +208,10 @@ serve_says board guests who queue made may =
     let exists : queue < board.queues = may.1 in
     let few = made.is_board.few_queues in
     worker_says board guests who (what.Serve queue) (act.Serve (decimal (who - first_worker)) (decimal queue)) is.low (omega (arith, is.exists, made.is_board.few_workers)) (and_from _ _ (number_word queue (omega arith)) refl) refl
-    (λ lines.
+    (λ number lines.
     then_ok (worker_at (so_far board guests lines []) (decimal (who - first_worker))) (who - first_worker) _ (worker_again board guests lines who made.is_board.few_workers is)
     ∙ then_ok (queue_at (so_far board guests lines []) (decimal queue)) queue _ (among_again 0 board.queues queue (omega arith) exists (omega arith))
-    ∙ ap (λ (n : ℕ). Ok (made_by n (what.Serve queue))) (is_who who is.low))
+    ∙ ap (λ (n : ℕ). Ok (so_far board guests (lines ++ record { number = number; who = n; what = what.Serve queue } ∷ []) [])) (is_who who is.low))
 
 worker_poll_says : (board : Board) (guests : List Setup) (who member queue : ℕ) → IsMade board guests → MayAsk board.queues board.workers guests who (what.WorkerPoll member queue) → IsSaid board guests who (what.WorkerPoll member queue)
 worker_poll_says board guests who member queue made may =
@@ -216,39 +220,39 @@ worker_poll_says board guests who member queue made may =
     let low : queue ≤ index_limit = may.2 in
     worker_says board guests who (what.WorkerPoll member queue) (act.WorkerPoll (decimal (who - first_worker)) (decimal member) (decimal queue)) is.low (omega (arith, is.exists, made.is_board.few_workers))
     (and_from _ _ (number_word member (omega arith)) (and_from _ _ (number_word queue (omega arith)) refl)) refl
-    (λ lines.
+    (λ number lines.
     then_ok (worker_at (so_far board guests lines []) (decimal (who - first_worker))) (who - first_worker) _ (worker_again board guests lines who made.is_board.few_workers is)
     ∙ then_ok (guest_at (so_far board guests lines []) (decimal member)) member _ (guest_again board guests lines member made.few may.1)
     ∙ then_ok (number_in 0 index_limit (decimal queue)) queue _ (number_in_again 0 index_limit queue (omega arith) low (omega arith))
-    ∙ ap (λ (n : ℕ). Ok (made_by n (what.WorkerPoll member queue))) (is_who who is.low))
+    ∙ ap (λ (n : ℕ). Ok (so_far board guests (lines ++ record { number = number; who = n; what = what.WorkerPoll member queue } ∷ []) [])) (is_who who is.low))
 
 -- ---- the lines of the host
 
 frame_says : (board : Board) (guests : List Setup) (member : ℕ) (frame : List ℕ) → IsMade board guests → MayAsk board.queues board.workers guests the_host (what.Frame member frame) → IsSaid board guests the_host (what.Frame member frame)
 frame_says board guests member frame made may =
     let few = few_guests guests member made.few may.1 in
-    let long : frame_least ≤ length frame = may.3 in
+    let long : shortest_frame ≤ length frame = may.3 in
     let some : 0 < length frame = omega arith in
     host_says board guests (what.Frame member frame) (act.Frame (decimal member) (encode_lower frame)) (and_from _ _ (number_word member (omega arith)) (and_from _ _ (hex_word frame may.2 some) refl)) refl
-    (λ lines.
+    (λ number lines.
     then_ok (guest_at (so_far board guests lines []) (decimal member)) member _ (guest_again board guests lines member made.few may.1)
-    ∙ then_ok (bytes_in frame_least frame_limit (encode_lower frame)) frame _ (bytes_in_again frame_least frame_limit frame may.2 some may.3 may.4)
-    ∙ when_holds (is_net guests member) cause.Kind _ may.5)
+    ∙ then_ok (bytes_in shortest_frame longest_frame (encode_lower frame)) frame _ (bytes_in_again shortest_frame longest_frame frame may.2 some may.3 may.4)
+    ∙ then_ok (provided (is_net guests member) cause.Kind) tt _ (provided_holds _ cause.Kind may.5))
 
 flr_says : (board : Board) (guests : List Setup) (member : ℕ) → IsMade board guests → IsGuest guests member → IsSaid board guests the_host (what.Flr member)
 flr_says board guests member made is =
     let few = few_guests guests member made.few is in
     host_says board guests (what.Flr member) (act.Flr (decimal member)) (and_from _ _ (number_word member (omega arith)) refl) refl
-    (λ lines. then_ok (guest_at (so_far board guests lines []) (decimal member)) member _ (guest_again board guests lines member made.few is))
+    (λ number lines. then_ok (guest_at (so_far board guests lines []) (decimal member)) member _ (guest_again board guests lines member made.few is))
 
 disable_says : (board : Board) (guests : List Setup) (member : ℕ) → IsMade board guests → IsGuest guests member → IsSaid board guests the_host (what.Disable member)
 disable_says board guests member made is =
     let few = few_guests guests member made.few is in
     host_says board guests (what.Disable member) (act.Disable (decimal member)) (and_from _ _ (number_word member (omega arith)) refl) refl
-    (λ lines. then_ok (guest_at (so_far board guests lines []) (decimal member)) member _ (guest_again board guests lines member made.few is))
+    (λ number lines. then_ok (guest_at (so_far board guests lines []) (decimal member)) member _ (guest_again board guests lines member made.few is))
 
 reset_says : (board : Board) (guests : List Setup) → IsSaid board guests the_host what.Reset
-reset_says board guests = host_says board guests what.Reset act.Reset refl refl (λ lines. refl)
+reset_says board guests = host_says board guests what.Reset act.Reset refl refl (λ number lines. refl)
 
 -- ---- each line
 

@@ -1,11 +1,13 @@
 -- The script that is made keeps to the bounds of scripts.
-use Rattle.std.proofs.Common.{ℕ, zero, suc, ◌+◌, ◌/◌, ◌%◌, ◌<◌, Bool, true, false, cond, List, [], ◌∷◌, refl, arith}
+use Rattle.std.proofs.Common.{ℕ, zero, suc, ◌+◌, ◌/◌, ◌%◌, ◌<◌, ◌≤◌, Bool, true, false, cond, List, [], ◌∷◌, refl, arith}
 use Rattle.std.specs.Prelude.{◌==◌}
-use Rattle.std.specs.List.{All}
+use Rattle.std.specs.List.{All, AllPairs}
+use Rattle.std.proofs.lemmas.List.Kept.{AllPairs-cons}
 use Rattle.hex.specs.Hex.{IsBytes}
 use Rattle.board_script.specs.declared.script.ActorLine.{ActorLine}
+use Rattle.board_script.specs.Limits.{line_limit}
 use Rattle.board_script.specs.Bounds.{IsGuest, IsSetup, IsScript, IsTurns, MayAsk}
-use Rattle.script_load.specs.Loaded.{reads, selects, loaded_board, loaded_line, loaded_lines, loaded_guests, loaded, block_setup, net_setup, next_state, drawn}
+use Rattle.script_load.specs.Loaded.{load_limit, reads, selects, loaded_board, loaded_line, loaded_lines, loaded_guests, loaded, block_setup, net_setup, next_state, drawn}
 
 none_of : {A : Type 0} (P : A → Type 0) → All P []
 none_of P k d lt = absurd (omega arith)
@@ -61,12 +63,44 @@ unfolding loaded_lines
 all_may zero number x = none_of MayLoad
 all_may (suc count) number x = more_of MayLoad (loaded_line number (drawn (next_state x))) (loaded_lines count (number + 1) (next_state x)) (may_load number (drawn (next_state x))) (all_may count (number + 1) (next_state x))
 
-pub loaded_is_script : (seed count : ℕ) → IsScript (loaded seed count)
-loaded_is_script seed count = record {
+-- ---- the numbers of the lines
+
+rest_from : (number : ℕ) (lines : List ActorLine) → All (λ l. number + 1 ≤ l.number) lines → All (λ l. number ≤ l.number) lines
+rest_from number lines later k d lt = let le = later k d lt in omega (arith, le)
+
+numbers_from : (count number x : ℕ) → All (λ l. number ≤ l.number) (loaded_lines count number x)
+unfolding loaded_lines
+numbers_from zero number x = none_of (λ l. number ≤ l.number)
+numbers_from (suc count) number x =
+    more_of (λ l. number ≤ l.number) (loaded_line number (drawn (next_state x))) (loaded_lines count (number + 1) (next_state x)) (omega arith)
+    (rest_from number (loaded_lines count (number + 1) (next_state x)) (numbers_from count (number + 1) (next_state x)))
+
+all_later : (number : ℕ) (lines : List ActorLine) → All (λ l. number + 1 ≤ l.number) lines → All (λ l. number < l.number) lines
+all_later number lines later k d lt = let le = later k d lt in omega (arith, le)
+
+no_pairs : AllPairs (λ (earlier : ActorLine) (later : ActorLine). earlier.number < later.number) []
+no_pairs i j d lt within = absurd (omega arith)
+
+numbers_rise : (count number x : ℕ) → AllPairs (λ earlier later. earlier.number < later.number) (loaded_lines count number x)
+unfolding loaded_lines
+numbers_rise zero number x = no_pairs
+numbers_rise (suc count) number x =
+    AllPairs-cons (λ earlier later. earlier.number < later.number) (loaded_line number (drawn (next_state x))) (loaded_lines count (number + 1) (next_state x))
+    (all_later number (loaded_lines count (number + 1) (next_state x)) (numbers_from count (number + 1) (next_state x))) (numbers_rise count (number + 1) (next_state x))
+
+numbers_below : (count number x : ℕ) → number + count ≤ line_limit → All (λ l. l.number < line_limit) (loaded_lines count number x)
+unfolding loaded_lines
+numbers_below zero number x fits = none_of (λ l. l.number < line_limit)
+numbers_below (suc count) number x fits =
+    more_of (λ l. l.number < line_limit) (loaded_line number (drawn (next_state x))) (loaded_lines count (number + 1) (next_state x)) (omega (arith, fits)) (numbers_below count (number + 1) (next_state x) (omega (arith, fits)))
+
+pub loaded_is_script : (seed count : ℕ) → count ≤ load_limit → IsScript (loaded seed count)
+loaded_is_script seed count few = record {
   board = record { a_queue = omega arith; few_queues = omega arith; queue_size = refl; few_workers = omega arith };
   few_guests = omega arith;
   guests = are_guests;
   lines = all_may count 6 seed;
+  numbered = record { in_order = numbers_rise count 6 seed; below = numbers_below count 6 seed (omega (arith, few)) };
   turns = none_of (IsTurns loaded_board.workers loaded_guests);
   scheduled = omega arith;
 }

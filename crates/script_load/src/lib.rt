@@ -8,4 +8,4 @@ mod generator;
 mod guests;
 mod load;
 
-pub use load::{LOAD_LIMIT, load_script};
+pub use load::{LOAD_LIMIT, load_limit_is_defined, load_script};

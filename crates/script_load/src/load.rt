@@ -10,6 +10,11 @@ use std::alloc::{AllocError as NoMemory, Global};
 /// The most lines that are made, of this project.
 pub const LOAD_LIMIT: u32 = 100_000;
 
+/// The limit that callers read is that of the definitions.
+pub fn load_limit_is_defined()
+    ensures { LOAD_LIMIT ≡ load_limit }
+{}
+
 // The number of the first line of an actor: the board and the guests come before.
 const FIRST_LINE: u32 = 6;
 

@@ -1,4 +1,4 @@
--- A line looked at byte by byte, without its words. Of this project.
+-- A line looked at byte by byte, without its words. The code's own.
 use Rattle.std.specs.Prelude.{ℕ, ◌==◌, ◌&&◌, ◌||◌, nat_le, not, Bool, List, [], ◌∷◌}
 
 -- A byte of a word or a space, but no space behind a space. The byte before the first of a line counts as a space.

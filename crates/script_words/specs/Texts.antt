@@ -1,5 +1,7 @@
 -- Texts line by line: the lines that are ignored, and the first fault of a text. Of this project.
-use Rattle.std.specs.Prelude.{◌≡◌, ℕ, ◌==◌, ◌||◌, Bool, List, length, slice_index, Result, Ok, Err}
+use Rattle.std.specs.Prelude.{◌≡◌, ℕ, ◌==◌, ◌||◌, Bool, List, ◌++◌, length, slice_index, codes, Result, Ok, Err}
+use Rattle.std.specs.Fmt.{decimal}
+use Rattle.script_words.specs.Causes.{cause_name}
 use Rattle.script_words.specs.declared.cause.Cause.{Cause}
 use Rattle.script_words.specs.declared.cause.Fault.{Fault}
 use Rattle.script_words.specs.declared.cause.Fault.TheVariants as of_line
@@ -30,3 +32,8 @@ Reads (Err fault.NoMemory) read = Unit {0}
 abbrev pub fault_at : ℕ → Fault → ScriptFault
 fault_at number (of_line.Bad found) = fault.Bad number found
 fault_at number of_line.NoMemory = fault.NoMemory
+
+-- why a text was not read, in words
+abbrev pub fault_words : ScriptFault → List ℕ
+fault_words (fault.Bad line found) = codes "bad line " ++ decimal line ++ codes ": " ++ cause_name found
+fault_words fault.NoMemory = codes "out of memory"

@@ -2,6 +2,7 @@
 use Rattle.std.specs.Prelude.{◌≡◌, ℕ, ◌==◌, ◌&&◌, ◌||◌, nat_le, nat_lt, if◌then◌else◌, Bool, List, length, Option, Some, None, Result, Ok, Err}
 use Rattle.board_text.specs.Number.{number_of}
 use Rattle.board_text.specs.Hex.{hex_bytes}
+use Rattle.byte_fields.specs.Sizes.{is_queue_size}
 use Rattle.script_words.specs.declared.cause.Cause.{Cause}
 use Rattle.script_words.specs.declared.cause.Cause.TheVariants as cause
 use Rattle.script_words.specs.declared.cause.Fault.{Fault}
@@ -54,10 +55,6 @@ is_width n = n == 1 || n == 2 || n == 4
 abbrev pub width_at : Option ℕ → Result ℕ Cause
 width_at None = Err cause.Number
 width_at (Some n) = when (is_width n) cause.Number n
-
--- a power of two from 4 to 256
-abbrev pub is_queue_size : ℕ → Bool
-is_queue_size n = n == 4 || n == 8 || n == 16 || n == 32 || n == 64 || n == 128 || n == 256
 
 abbrev pub queue_size_at : Option ℕ → Result ℕ Cause
 queue_size_at None = Err cause.Number

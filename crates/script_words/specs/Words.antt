@@ -30,10 +30,11 @@ abbrev pub are_digits : List ℕ → Bool
 are_digits [] = false
 are_digits (digit ∷ digits) = list_all is_ascii_digit (digit ∷ digits)
 
--- `g` or `w` with digits after it, or a name
+-- `g` or `w` with digits after it: a guest or a worker by its digits. Any other word is a name.
 abbrev pub head_of : List ℕ → Head
-head_of [] = Name
-head_of (letter ∷ digits) = if are_digits digits then (if letter == 103 then Guest digits else if letter == 119 then Worker digits else Name) else Name
+head_of [] = Name []
+head_of (letter ∷ digits) =
+    if are_digits digits then (if letter == 103 then Guest digits else if letter == 119 then Worker digits else Name (letter ∷ digits)) else Name (letter ∷ digits)
 
 -- the words where they are just so many
 abbrev pub one_of : List (List ℕ) → Option (List ℕ)

@@ -1,8 +1,10 @@
 //! Which form a line has.
 ghost use Rattle.std.specs.Prelude.{◌≡◌};
 ghost use Rattle.script_words.specs.declared.shape.Act.TheVariants.{Peek, Cfg};
-ghost use Rattle.script_words.specs.Shape.{form, tail_of, switch_of, in_of, out_of, guest_form, worker_form, host_form, block_of, setup_form, is_actor_word, are_pairs as are_pairs_of, go_form, named_form, form_of, shape_of};
-ghost use Rattle.script_words.specs.Words.{one_of, two_of, words_of, head_of};
+ghost use Rattle.script_words.specs.declared.shape.Shape.TheVariants.{Go};
+ghost use Rattle.script_words.specs.Parts.{form, tail_of, switch_of, is_actor_word, are_pairs as are_pairs_of, pairs_of};
+ghost use Rattle.script_words.specs.Shape.{in_of, out_of, guest_form, worker_form, host_form, member_block, setup_form, named_form, form_of, shape_of};
+ghost use Rattle.script_words.specs.Words.{two_of, words_of, head_of};
 
 use crate::shape::{Act, Member, Shape, Tail};
 use crate::words::{Head, Word, Words, are_plain};
@@ -41,7 +43,7 @@ fn read_tail<'a>(words: Words<'a>) -> Option<Tail<'a>>
 }
 
 fn read_switch(words: Words) -> Option<bool>
-    ensures { result ≡ switch_of (one_of words.entry) }
+    ensures { result ≡ switch_of words.entry }
 {
     let word = words.one()?;
     if word.is(b"on") {
@@ -185,7 +187,7 @@ fn host_line(words: Words) -> Option<Act>
 }
 
 fn read_block(words: Words) -> Option<Member>
-    ensures { result ≡ block_of words.entry }
+    ensures { result ≡ member_block words.entry }
 {
     let (pages, rest) = words.split()?;
     let (sectors, rest) = rest.split()?;
@@ -228,12 +230,12 @@ fn setup_line(words: Words) -> Option<Shape>
 }
 
 fn is_actor(word: &Word) -> bool
-    ensures { result ≡ is_actor_word (head_of word.now) word.now }
+    ensures { result ≡ is_actor_word (head_of word.now) }
 {
     match word.head() {
         Head::Guest(_) => true,
         Head::Worker(_) => true,
-        Head::Name => word.is(b"host"),
+        Head::Name(name) => name.is(b"host"),
     }
 }
 
@@ -255,7 +257,7 @@ fn are_pairs(words: Words) -> bool
 
 // What follows `go`.
 fn go_line(words: Words) -> Option<Shape>
-    ensures { result ≡ go_form words.entry }
+    ensures { result ≡ form (pairs_of words.entry) (λ pairs. Go pairs) }
 {
     if words.is_ended() || !are_pairs(words.again()) {
         return None;
@@ -299,7 +301,7 @@ fn read_form(words: Words) -> Option<Shape>
             let act = worker_line(worker, rest)?;
             Some(Shape::Acts(act))
         }
-        Head::Name => named_line(first, rest),
+        Head::Name(name) => named_line(name, rest),
     }
 }
 

@@ -1,10 +1,11 @@
 //! What a word stands for where it must be hex.
-ghost use Rattle.std.specs.Prelude.{◌≡◌, ◌≢◌, ◌≤◌, IfOk, IfErr, OnOk, length, is_some, None, IsSome};
+ghost use Rattle.std.specs.Prelude.{◌≡◌, ◌≢◌, ◌≤◌, IfOk, IfErr, OnOk, OnErr, length, is_some, true, None, IsSome};
 ghost use Rattle.std.specs.List.{list_all};
 ghost use Rattle.hex.specs.Hex.{is_hex_digit, IsBytes};
 ghost use Rattle.board_text.specs.Hex.{hex_bytes};
+ghost use Rattle.board_text.specs.Limits.{piece_limit};
 ghost use Rattle.script_words.specs.declared.cause.Fault.TheVariants.{NoMemory};
-ghost use Rattle.script_words.specs.Values.{Gives, GivesAlways, Steps, any_bytes, bytes_in, bytes_of_width as bytes_of_width_of};
+ghost use Rattle.script_words.specs.Values.{Gives, GivesAlways, Steps, is_width as is_width_of, any_bytes, bytes_in, bytes_of_width as bytes_of_width_of};
 
 use crate::cause::{Cause, Fault};
 use crate::values::is_width;
@@ -46,6 +47,7 @@ pub fn bytes(alloc: Global, word: &Word, low: usize, high: usize) -> Result<Byte
 pub fn bytes_of_width(alloc: Global, word: &Word) -> Result<Bytes, Fault>
     ensures value { Gives result (bytes_of_width_of (hex_bytes word.now)) }
     ensures each { IfOk result IsBytes }
+    ensures width { IfOk result (λ bytes. is_width_of (length bytes) ≡ true) }
 {
     let bytes = read_bytes(alloc, word)?;
     if is_width(bytes.as_slice().len() as u64) {
@@ -71,8 +73,8 @@ fn is_hex(text: &[u8]) -> bool
     all_hex(text)
 }
 
-// What is wrong with a word that spells no 1 to 256 bytes.
-fn fault_without_piece(word: &Word) -> Fault
+// What is wrong with a word that doesn't spell as many bytes as it must.
+fn fault_of_number(word: &Word) -> Fault
     ensures hex { hex_bytes word.now ≡ None → result ≡ Fault.Bad Cause.Hex }
     ensures range { IsSome (hex_bytes word.now) → result ≡ Fault.Bad Cause.Range }
 {
@@ -84,29 +86,30 @@ fn fault_without_piece(word: &Word) -> Fault
 }
 
 /// Puts the bytes that a word spells into a piece: a number of bytes within bounds, of at most 256. It takes no
-/// memory. After an error some bytes stand in the piece.
+/// memory. After an error the piece is as it was.
 pub fn fill_piece(word: &Word, low: usize, high: usize, piece: &mut Piece) -> Result<(), Fault>
-    requires { high ≤ 256 }
+    requires { high ≤ piece_limit }
     ensures value { Steps result piece.new (bytes_in low high word.now) }
     ensures memory { IfErr result (λ fault. fault ≢ NoMemory) }
+    ensures refused { OnErr result (piece.new ≡ piece.old) }
     ensures each { OnOk result (IsBytes piece.new) }
     ensures low { OnOk result (low ≤ length piece.new) }
     ensures high { OnOk result (length piece.new ≤ high) }
 {
-    if !piece.read_hex(word.bytes()) {
-        return Err(fault_without_piece(word));
+    let length = word.bytes().len() / 2;
+    if length < low || high < length {
+        return Err(fault_of_number(word));
     }
-    let length = piece.as_slice().len();
-    if low <= length && length <= high {
+    if piece.read_hex(word.bytes()) {
         Ok(())
     } else {
-        Err(Fault::Bad(Cause::Range))
+        Err(Fault::Bad(Cause::Hex))
     }
 }
 
 /// Bytes of a number within bounds, of at most 256. It takes no memory.
 pub fn piece(word: &Word, low: usize, high: usize) -> Result<Piece, Fault>
-    requires { high ≤ 256 }
+    requires { high ≤ piece_limit }
     ensures value { GivesAlways result (bytes_in low high word.now) }
     ensures each { IfOk result IsBytes }
     ensures low { IfOk result (λ b. low ≤ length b) }

@@ -1,18 +1,41 @@
 //! Texts line by line: which lines are ignored, and why a text was not read.
 ghost use Rattle.std.specs.Prelude.{◌≡◌};
-ghost use Rattle.script_words.specs.Texts.{fault_at, is_ignored as is_ignored_of};
+ghost use Rattle.script_words.specs.Texts.{fault_at, fault_words, is_ignored as is_ignored_of};
 
 use crate::cause::{Cause, Fault};
-use thiserror::Error;
+use std::error::Error;
+use std::fmt;
 
 /// Why a text was not read.
-#[derive(Debug, Drop, Error)]
+#[derive(Debug, Drop)]
 pub enum ScriptFault {
     /// The number of the first line with a fault, from 1, and what is wrong with it.
-    #[error("bad line {line}: {cause}")]
     Bad { line: u32, cause: Cause },
-    #[error("out of memory")]
     NoMemory,
+}
+
+impl fmt::Display for ScriptFault {
+    ghost use Rattle.std.specs.Prelude.{Some};
+
+    ghost output = { λ fault. Some (fault_words fault) };
+
+    fn fmt<W: fmt::Write>(&self, f: &mut fmt::Formatter<W>) -> fmt::Result {
+        match self {
+            ScriptFault::Bad { line, cause } => write!(f, "bad line {line}: {cause}"),
+            ScriptFault::NoMemory => write!(f, "out of memory"),
+        }
+    }
+}
+
+impl Error for ScriptFault {}
+
+fn crosses<T: Send + Sync>() {}
+
+/// A fault may be sent to a thread, and shared by threads.
+pub fn faults_cross_threads() {
+    crosses::<Cause>();
+    crosses::<Fault>();
+    crosses::<ScriptFault>();
 }
 
 /// Why a line with this number was not read.

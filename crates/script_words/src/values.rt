@@ -1,7 +1,8 @@
 //! What a word stands for where it must be a number or hex.
-ghost use Rattle.std.specs.Prelude.{◌≡◌, ◌≤◌, ◌<◌, ◌^◌, IfOk};
+ghost use Rattle.std.specs.Prelude.{◌≡◌, ◌≤◌, ◌<◌, ◌^◌, true, IfOk};
 ghost use Rattle.board_text.specs.Number.{number_of};
-ghost use Rattle.script_words.specs.Values.{GivesAlways, number_in, any_number, is_width as is_width_of, width_at, is_queue_size as is_queue_size_of, queue_size_at, among as among_of};
+ghost use Rattle.byte_fields.specs.Sizes.{is_queue_size as is_queue_size_of};
+ghost use Rattle.script_words.specs.Values.{GivesAlways, number_in, any_number, is_width as is_width_of, width_at, queue_size_at, among as among_of};
 
 use crate::cause::{Cause, Fault};
 use crate::words::Word;
@@ -21,6 +22,7 @@ pub fn number_at(word: &Word) -> Option<u64>
 pub fn number(word: &Word, low: u64, high: u64) -> Result<u64, Fault>
     ensures value { GivesAlways result (number_in low high word.now) }
     ensures bound { IfOk result (λ n. n ≤ high) }
+    ensures low { IfOk result (λ n. low ≤ n) }
 {
     let Some(number) = number_at(word) else {
         return Err(Fault::Bad(Cause::Number));
@@ -50,7 +52,8 @@ pub(crate) fn is_width(number: u64) -> bool
 
 /// 1, 2 or 4.
 pub fn width(word: &Word) -> Result<u32, Fault>
-    ensures { GivesAlways result (width_at (number_of word.now)) }
+    ensures value { GivesAlways result (width_at (number_of word.now)) }
+    ensures width { IfOk result (λ n. is_width_of n ≡ true) }
 {
     match number_at(word) {
         Some(number) => {
@@ -78,7 +81,8 @@ fn is_queue_size(number: u64) -> bool
 
 /// A power of two from 4 to 256.
 pub fn queue_size(word: &Word) -> Result<u32, Fault>
-    ensures { GivesAlways result (queue_size_at (number_of word.now)) }
+    ensures value { GivesAlways result (queue_size_at (number_of word.now)) }
+    ensures size { IfOk result (λ n. is_queue_size_of n ≡ true) }
 {
     match number_at(word) {
         Some(number) => {

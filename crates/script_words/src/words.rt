@@ -60,7 +60,7 @@ impl<'a> Word<'a> {
 pub enum Head<'a> {
     Guest(Word<'a>),
     Worker(Word<'a>),
-    Name,
+    Name(Word<'a>),
 }
 
 fn all_digits(text: &[u8]) -> bool
@@ -79,20 +79,27 @@ fn are_digits(text: &[u8]) -> bool
 }
 
 impl<'a> Word<'a> {
+    // The word as a name.
+    fn name(&self) -> Head<'a>
+        ensures { result ≡ Head.Name self.now }
+    {
+        Head::Name(Word { bytes: self.bytes })
+    }
+
     /// Whether the word is `g` or `w` with digits after it.
     pub fn head(&self) -> Head<'a>
         ensures { result ≡ head_of self.now }
     {
         let Some((letter, digits)) = self.bytes.split_first() else {
-            return Head::Name;
+            return self.name();
         };
         if !are_digits(digits) {
-            return Head::Name;
+            return self.name();
         }
         match *letter {
             b'g' => Head::Guest(Word { bytes: digits }),
             b'w' => Head::Worker(Word { bytes: digits }),
-            _ => Head::Name,
+            _ => self.name(),
         }
     }
 }

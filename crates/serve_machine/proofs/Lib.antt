@@ -1,3 +1,4 @@
 pub mod Limits
 pub mod Replies
 pub mod RunGrammar
+pub mod Causes

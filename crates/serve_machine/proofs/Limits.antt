@@ -1,44 +1,25 @@
 -- What the cells answer keeps within the limits of a service.
-use Rattle.std.proofs.Common.{ℕ, ◌-◌, ◌≤◌, Bool, true, false, List, [], ◌∷◌, drop, Some, None, Option, arith, sym, subst, length-take, lit≤, if◌then◌else◌}
-use Rattle.std.specs.Prelude.{◌==◌, ◌&&◌, nat_lt, nat_le, not, IsSomeAnd}
-use Rattle.admin_wire.specs.Command.{command_of, body_of, opcode_of}
-use Rattle.admin_wire.specs.Writing.{result_length}
-use Rattle.admin_wire.specs.declared.numbers.TheConstants.{SR_IOV, LEGACY_NOTIFY_INFO}
-use Rattle.admin_wire.specs.declared.command.Body.{Body}
-use Rattle.admin_wire.specs.declared.command.Body.TheVariants.{Query, Use, Legacy as ToMember, Unknown}
+use Rattle.std.proofs.Common.{◌≡◌, ℕ, ◌≤◌, Bool, true, false, List, [], ◌∷◌, Some, None, Option, sym, subst, lit≤, if◌then◌else◌}
+use Rattle.std.specs.Prelude.{not, IsSomeAnd}
 use Rattle.admin_wire.specs.declared.command.LegacyCmd.{LegacyCmd}
-use Rattle.admin_wire.specs.declared.command.LegacyCmd.TheVariants.{CommonWrite, CommonRead, DevWrite, DevRead, Info as NotifyInfo}
-use Rattle.legacy_regs.specs.declared.device.Kind.{Kind}
-use Rattle.legacy_regs.specs.declared.accesses.Space.TheVariants.{Common, Device}
-use Rattle.legacy_regs.specs.Registers.{Registers, structure}
 use Rattle.history.specs.Look.{or_else}
 use Rattle.group_calls.specs.Limits.{writable_limit}
+use Rattle.group_calls.specs.declared.ask.Ask.{Ask}
 use Rattle.group_calls.specs.declared.ask.Ask.TheVariants.{Owner, Queue, Member}
 use Rattle.group_calls.specs.declared.ask.Told.{Told}
 use Rattle.group_calls.specs.declared.ask.Told.TheVariants.{Owner as FromOwner, Queue as FromQueue, Member as FromMember, NoMemory}
-use Rattle.group_calls.specs.declared.owner.OwnerCall.TheVariants.{Judge}
-use Rattle.group_calls.specs.declared.owner.OwnerReply.{OwnerReply}
-use Rattle.group_calls.specs.declared.owner.OwnerReply.TheVariants.{Done, List as Listed, Used, Refused, Legacy}
 use Rattle.group_calls.specs.declared.queue.RingCall.{RingCall}
 use Rattle.group_calls.specs.declared.queue.RingCall.TheVariants.{Post, Pop}
 use Rattle.group_calls.specs.declared.queue.RingReply.{RingReply}
 use Rattle.group_calls.specs.declared.queue.RingReply.TheVariants.{Seq, Fetched as Fetches, Empty}
-use Rattle.group_calls.specs.declared.member.MemberMade.{MemberMade}
-use Rattle.group_calls.specs.declared.member.MemberCall.TheVariants.{Act}
-use Rattle.group_calls.specs.declared.member.MemberReply.{MemberReply}
-use Rattle.group_calls.specs.declared.member.MemberReply.TheVariants.{Data, Written, Info, Refused as RefusedIt, Gone}
-use Rattle.group_calls.specs.declared.member.Why.TheVariants.{Field}
 use Rattle.group_calls.specs.Asks.{AnswersAsk}
-use Rattle.group_calls.specs.Facts.{Facts, facts}
-use Rattle.group_calls.specs.Member.{answer_by, access_answer, is_refused, killed}
-use Rattle.group_calls.specs.Storage.{memory_after, disk_after}
-use Rattle.group_calls.specs.Owner.{OwnerEntry, verdict, verdict_on, refused, supported_list, invalid_field, invalid_group, invalid_member, invalid_opcode, vf_count, is_away, is_used}
 use Rattle.group_calls.specs.Queue.{RingEntry, Posted, posted_by, posted, earliest, fetch, pop_or_fetch, pop_answer, queue_may, IsLegalQueue, is_closed, is_fetched, in_service}
 use Rattle.serve_machine.specs.declared.stage.Fetched.{Fetched}
 use Rattle.serve_machine.specs.declared.stage.Stage.{Stage}
 use Rattle.serve_machine.specs.declared.stage.Stage.TheVariants.{Popping, Judging, Acting, Completing, Ended}
-use Rattle.serve_machine.specs.Service.{next_ask, after, after_pop, after_judge, after_act}
-use Rattle.serve_machine.specs.Within.{payload_limit, writable_in, result_in, IsWithinReply, IsActTold}
+use Rattle.serve_machine.specs.Grammar.{passed_on}
+use Rattle.serve_machine.specs.Service.{next_ask, after, after_pop, after_judge, completing}
+use Rattle.serve_machine.specs.Within.{writable_in, IsLow}
 
 -- both branches have it
 pub either : {A : Type 0} (P : A → Type 0) (b : Bool) (x y : A) → P x → P y → P (if b then x else y)
@@ -92,112 +73,43 @@ pop_or_fetch_few h None few = fetch_few (earliest (λ p. not (is_fetched h p.seq
 pop_few : (h : List RingEntry) → AreFew (posted h) → FetchesFew (pop_answer h)
 pop_few h few = either FetchesFew (is_closed h) Empty (pop_or_fetch h (earliest (λ p. in_service h p.seq) (posted h))) tt (pop_or_fetch_few h (earliest (λ p. in_service h p.seq) (posted h)) few)
 
--- ---- an access that the owner lets pass has a result that fits
+-- ---- answers stand at places of a history
 
-abbrev BodyFits : Body → Type 0
-BodyFits (ToMember command) = result_length command ≤ payload_limit
-BodyFits _ = Unit {0}
+low : (ask : Ask) (told : Told) → AnswersAsk ask told → IsLow told
+low (Member id floor call) (FromMember placed) answers = answers.2.most
+low (Owner call) (FromMember placed) answers = absurd answers
+low (Queue index call) (FromMember placed) answers = absurd answers
+low ask (FromOwner placed) answers = tt
+low ask (FromQueue placed) answers = tt
+low ask NoMemory answers = tt
 
-abbrev VerdictFits : OwnerReply → Type 0
-VerdictFits (Legacy member command) = result_length command ≤ payload_limit
-VerdictFits _ = Unit {0}
-
-body_fits : (opcode : ℕ) (bytes : List ℕ) (writable : ℕ) → writable ≤ writable_limit → BodyFits (body_of opcode bytes writable)
-body_fits opcode bytes writable few =
-    let left : writable - 8 ≤ payload_limit = omega arith in
-    either BodyFits (opcode == 0) _ _ tt (
-    either BodyFits (opcode == 1) _ _ tt (
-    either BodyFits (opcode == 2) _ _ (lit≤ tt) (
-    either BodyFits (opcode == 3) _ _ left (
-    either BodyFits (opcode == 4) _ _ (lit≤ tt) (
-    either BodyFits (opcode == 5) _ _ left (
-    either BodyFits (opcode == 6) _ _ (lit≤ tt) tt))))))
-
-verdict_on_fits : (h : List OwnerEntry) (m : ℕ) (body : Body) → BodyFits body → VerdictFits (verdict_on h m body)
-verdict_on_fits h m Query fits = tt
-verdict_on_fits h m (Use bits) fits = either VerdictFits (nat_lt supported_list bits) (refused h m invalid_field) Used tt tt
-verdict_on_fits h m (ToMember command) fits = either VerdictFits (nat_lt 0 m && nat_le m (vf_count h) && not (is_away h m)) (Legacy m command) (refused h m invalid_member) fits tt
-verdict_on_fits h m Unknown fits = tt
-
-verdict_fits : (h : List OwnerEntry) (bytes : List ℕ) (writable : ℕ) → writable ≤ writable_limit → VerdictFits (verdict h bytes writable)
-verdict_fits h bytes writable few =
-    let c = command_of bytes writable in
-    let known = nat_le c.opcode LEGACY_NOTIFY_INFO && is_used h c.opcode in
-    let last = verdict_on h c.member c.body in
-    let second = if not known then refused h c.member invalid_opcode else last in
-    either VerdictFits (not (c.group_type == SR_IOV)) (refused h c.member invalid_group) second tt (
-    either VerdictFits (not known) (refused h c.member invalid_opcode) last tt (
-    verdict_on_fits h c.member c.body (body_fits (opcode_of bytes) bytes writable few)))
-
--- ---- a member reads no more than it is asked for
-
-access_within : (kind : Kind) (r : Registers) (access : LegacyCmd) → result_length access ≤ payload_limit → IsWithinReply (access_answer kind r access)
-access_within kind r (CommonWrite offset bytes) fits = tt
-access_within kind r (CommonRead offset count) fits = omega (arith, length-take count (drop offset (structure kind r Common)))
-access_within kind r (DevWrite offset bytes) fits = tt
-access_within kind r (DevRead offset count) fits = omega (arith, length-take count (drop offset (structure kind r Device)))
-access_within kind r NotifyInfo fits = tt
-
-act_within : (made : MemberMade) (end : Option ℕ) (f : Facts) (memory disk : List ℕ) (access : LegacyCmd) → result_length access ≤ payload_limit → IsWithinReply (answer_by made end f memory disk (Act access))
-act_within made None f memory disk access fits = either IsWithinReply (is_refused made.kind f.registers.msix access) (RefusedIt Field) (access_answer made.kind f.registers access) tt (access_within made.kind f.registers access fits)
-act_within made (Some floor) f memory disk access fits = tt
+pub told_low : (o : Option Ask) (told : Told) → IsSomeAnd o (λ ask. AnswersAsk ask told) → IsLow told
+told_low (Some ask) told answers = low ask told answers
+told_low None told answers = absurd answers
 
 -- ---- stages
 
-abbrev IsWithin : Stage → Type 0
-IsWithin stage = (writable_in stage ≤ writable_limit) × (result_in stage ≤ payload_limit)
+abbrev IsFewIn : Stage → Type 0
+IsFewIn stage = writable_in stage ≤ writable_limit
 
-none_within : (0 ≤ writable_limit) × (0 ≤ payload_limit)
-none_within = (lit≤ tt, lit≤ tt)
+fetched_few : (at : ℕ) (reply : RingReply) → FetchesFew reply → IsFewIn (after_pop (FromQueue (record { at = at; reply = reply })))
+fetched_few at (Fetches seq bytes writable tag) few = few
+fetched_few at _ few = lit≤ tt
 
-fetched_within : (at : ℕ) (reply : RingReply) → FetchesFew reply → IsWithin (after_pop (FromQueue (record { at = at; reply = reply })))
-fetched_within at (Fetches seq bytes writable tag) few = (few, lit≤ tt)
-fetched_within at _ few = none_within
-
-pop_within : (queue : ℕ) (told : Told) → AnswersAsk (Queue queue Pop) told → IsWithin (after_pop told)
-pop_within queue (FromQueue placed) answers =
+popped_few : (queue : ℕ) (told : Told) → AnswersAsk (Queue queue Pop) told → IsFewIn (after_pop told)
+popped_few queue (FromQueue placed) answers =
     let over = answers.2 in
-    fetched_within placed.at placed.reply (subst FetchesFew (sym over.reply) (pop_few over.history (posted_few answers.0 over.history over.legal)))
-pop_within queue _ answers = none_within
+    fetched_few placed.at placed.reply (subst FetchesFew (sym over.reply) (pop_few over.history (posted_few answers.0 over.history over.legal)))
+popped_few queue _ answers = lit≤ tt
 
-judged_within : (command : Fetched) (at : ℕ) (reply : OwnerReply) → VerdictFits reply → IsWithin (after_judge command (FromOwner (record { at = at; reply = reply })))
-judged_within command at (Legacy member access) fits = (lit≤ tt, fits)
-judged_within command at Done fits = none_within
-judged_within command at (Listed bits) fits = none_within
-judged_within command at Used fits = none_within
-judged_within command at (Refused status qualifier floor) fits = none_within
+judged_few : (command : Fetched) (told : Told) (o : Option (ℕ × LegacyCmd)) → command.writable ≤ writable_limit → IsFewIn (elim o [ Some to ↦ Acting command to.0 to.1 | None ↦ completing command told ])
+judged_few command told (Some to) few = few
+judged_few command told None few = lit≤ tt
 
-judge_within : (command : Fetched) (bytes : List ℕ) (told : Told) → command.writable ≤ writable_limit → AnswersAsk (Owner (Judge bytes command.writable)) told → IsWithin (after_judge command told)
-judge_within command bytes (FromOwner placed) few answers =
-    let over = answers.1 in
-    judged_within command placed.at placed.reply (subst VerdictFits (sym over.reply) (verdict_fits over.history bytes command.writable few))
-judge_within command bytes NoMemory few answers = none_within
-judge_within command bytes _ few answers = none_within
-
-acted_within : (command : Fetched) (at : ℕ) (reply : MemberReply) → IsWithin (after_act command (FromMember (record { at = at; reply = reply })))
-acted_within command at (Data bytes) = none_within
-acted_within command at Written = none_within
-acted_within command at Info = none_within
-acted_within command at (RefusedIt why) = none_within
-acted_within command at (Gone floor) = none_within
-acted_within command at _ = none_within
-
-after_act_within : (command : Fetched) (told : Told) → IsWithin (after_act command told)
-after_act_within command (FromMember placed) = acted_within command placed.at placed.reply
-after_act_within command NoMemory = none_within
-after_act_within command _ = none_within
-
--- what the member answers to the access is within the limits
-pub act_told : (member floor : ℕ) (access : LegacyCmd) (told : Told) → result_length access ≤ payload_limit → AnswersAsk (Member member floor (Act access)) told → IsActTold told
-act_told member floor access (FromMember placed) fits answers =
-    let over = answers.2 in
-    (over.most, subst IsWithinReply (sym over.reply) (act_within answers.0 (killed over.history) (facts answers.0 over.history) (memory_after answers.0 over.history) (disk_after answers.0 over.history) access fits))
-act_told member floor access _ fits answers = tt
-
--- and so is the next stage
-pub stage_within : (queue : ℕ) (stage : Stage) (told : Told) → writable_in stage ≤ writable_limit → result_in stage ≤ payload_limit → IsSomeAnd (next_ask queue stage) (λ ask. AnswersAsk ask told) → (writable_in (after stage told) ≤ writable_limit) × (result_in (after stage told) ≤ payload_limit)
-stage_within queue Popping told few fits answers = pop_within queue told answers
-stage_within queue (Judging command bytes) told few fits answers = judge_within command bytes told few answers
-stage_within queue (Acting command member access) told few fits answers = after_act_within command told
-stage_within queue (Completing seq bytes floor) told few fits answers = none_within
-stage_within queue Ended told few fits answers = none_within
+-- the next stage has as few writable bytes as this one, or as a queue holds
+pub stage_few : (queue : ℕ) (stage : Stage) (told : Told) → writable_in stage ≤ writable_limit → IsSomeAnd (next_ask queue stage) (λ ask. AnswersAsk ask told) → writable_in (after stage told) ≤ writable_limit
+stage_few queue Popping told few answers = popped_few queue told answers
+stage_few queue (Judging command bytes) told few answers = judged_few command told (passed_on told) few
+stage_few queue (Acting command member access) told few answers = lit≤ tt
+stage_few queue (Completing seq bytes floor) told few answers = lit≤ tt
+stage_few queue Ended told few answers = lit≤ tt

@@ -1,28 +1,28 @@
 -- The runs of the machine are the services of the grammar.
-use Rattle.std.proofs.Common.{◌≡◌, ℕ, ◌+◌, ◌⊎◌, inl, inr, List, [], ◌∷◌, ◌++◌, Option, Some, None, refl, sym, ap, subst, ◌∙◌, arith, lit≤}
-use Rattle.std.specs.Prelude.{max, IsSome, ◌↔◌}
+use Rattle.std.proofs.Common.{◌≡◌, ℕ, ◌⊎◌, inl, inr, List, [], ◌∷◌, ◌++◌, Option, Some, None, refl, sym, ap, subst, ◌∙◌, lit≤}
+use Rattle.std.specs.Prelude.{unwrap_or, IsSome, ◌↔◌}
 use Rattle.admin_wire.specs.declared.command.LegacyCmd.{LegacyCmd}
+use Rattle.history.specs.Look.{latest_or}
+use Rattle.group_calls.specs.declared.ask.Ask.{Ask}
 use Rattle.group_calls.specs.declared.ask.Ask.TheVariants.{Owner, Queue, Member}
 use Rattle.group_calls.specs.declared.ask.Told.{Told}
 use Rattle.group_calls.specs.declared.ask.Told.TheVariants.{Owner as FromOwner, Queue as FromQueue, Member as FromMember, NoMemory}
 use Rattle.group_calls.specs.declared.owner.OwnerCall.TheVariants.{Judge}
-use Rattle.group_calls.specs.declared.owner.OwnerReply.{OwnerReply}
-use Rattle.group_calls.specs.declared.owner.OwnerReply.TheVariants.{Done, List as Listed, Used, Refused, Legacy}
 use Rattle.group_calls.specs.declared.queue.RingCall.TheVariants.{Pop, Complete}
 use Rattle.group_calls.specs.declared.queue.RingReply.{RingReply}
 use Rattle.group_calls.specs.declared.queue.RingReply.TheVariants.{Fetched as Fetches, Empty, InService, Stale}
 use Rattle.group_calls.specs.declared.member.MemberCall.TheVariants.{Act}
-use Rattle.group_calls.specs.declared.member.MemberReply.{MemberReply}
-use Rattle.group_calls.specs.declared.member.MemberReply.TheVariants.{Data, Written, Info, Refused as RefusedIt, Gone}
 use Rattle.group_calls.specs.Asks.{AnswersAsk, Exchange, AreAnswered}
 use Rattle.group_calls.specs.Queue.{Posted}
 use Rattle.serve_machine.specs.declared.stage.Fetched.{Fetched}
 use Rattle.serve_machine.specs.declared.stage.Stage.{Stage}
 use Rattle.serve_machine.specs.declared.stage.Stage.TheVariants.{Popping, Judging, Acting, Completing, Ended}
-use Rattle.serve_machine.specs.Service.{next_ask, after, after_pop, after_judge, after_act}
-use Rattle.serve_machine.specs.Grammar.{FindsNothing, Finds, IsPop, IsJudge, passed_on, IsAct, completed_with, behind, refusal, IsService, finds_nothing, is_decided, is_carried_out, IsAnsweredService, BeginsService}
+use Rattle.serve_machine.specs.Completion.{completed_with, completed_under}
+use Rattle.serve_machine.specs.Service.{next_ask, after, after_pop, after_judge, completing}
+use Rattle.serve_machine.specs.Grammar.{FindsNothing, Finds, IsPop, IsJudge, passed_on, IsAct, IsService, finds_nothing, is_decided, is_carried_out, IsAnsweredService, BeginsService}
+use Rattle.serve_machine.specs.Floors.{floor_fetched, IsAtFloor, AreAtFloors}
 use Rattle.serve_machine.specs.Runs.{stage_after, AreAsked, IsWholeRun, IsOpenRun}
-use Rattle.serve_machine.proofs.Replies.{IsPopReply, IsPopTold, pop_told, IsVerdict, IsJudgeTold, judge_told, IsActReply, IsMemberTold, act_answered}
+use Rattle.serve_machine.proofs.Replies.{IsPopReply, IsPopTold, pop_told}
 
 some_same : {A : Type 0} (x y : A) → Some x ≡ Some y → x ≡ y
 some_same x y e = cc
@@ -30,29 +30,13 @@ some_same x y e = cc
 -- ---- stages in the words of the grammar
 
 abbrev kept : Posted → Fetched
-kept p = record { seq = p.seq; writable = p.writable; floor = p.tag.floor }
+kept p = record { seq = p.seq; writable = p.writable; tag = p.tag }
 
 abbrev judging : Posted → Stage
 judging p = Judging (kept p) p.bytes
 
 abbrev acting : Posted → ℕ × LegacyCmd → Stage
 acting p to = Acting (kept p) to.0 to.1
-
-abbrev completing_for : Posted → Told → Stage
-completing_for p told = Completing p.seq (completed_with told p.writable) (max p.tag.floor (max (behind told) (refusal told)))
-
--- the floor that the machine is told is the one of its answer
-abbrev completing_under : Posted → Told → ℕ → Stage
-completing_under p told floor = Completing p.seq (completed_with told p.writable) (max p.tag.floor floor)
-
-same_floor : (p : Posted) (told : Told) (floor : ℕ) → floor ≡ max (behind told) (refusal told) → completing_under p told floor ≡ completing_for p told
-same_floor p told floor e = ap (completing_under p told) e
-
-place_alone : (place : ℕ) → place + 1 ≡ max (place + 1) 0
-place_alone place = omega arith
-
-refusal_alone : (floor : ℕ) → floor ≡ max 0 floor
-refusal_alone floor = omega arith
 
 -- ---- the stage after an answer
 
@@ -69,56 +53,37 @@ found_stage : (p : Posted) (told : Told) → Finds p told → after_pop told ≡
 found_stage p (FromQueue placed) finds = ap (λ reply. after_pop (FromQueue (record { at = placed.at; reply = reply }))) finds
 found_stage p _ finds = absurd finds
 
-passed_stage : (p : Posted) (to : ℕ × LegacyCmd) (told : Told) → passed_on told ≡ Some to → after_judge (kept p) told ≡ acting p to
-passed_stage p to (FromOwner placed) passed = step placed.at placed.reply passed
-  where
-    step : (at : ℕ) (reply : OwnerReply) → passed_on (FromOwner (record { at = at; reply = reply })) ≡ Some to → after_judge (kept p) (FromOwner (record { at = at; reply = reply })) ≡ acting p to
-    step at (Legacy member access) passed = ap (acting p) (some_same (member, access) to passed)
-    step at Done passed = absurd (cc)
-    step at (Listed bits) passed = absurd (cc)
-    step at Used passed = absurd (cc)
-    step at (Refused status qualifier floor) passed = absurd (cc)
-passed_stage p to (FromQueue placed) passed = absurd (cc)
-passed_stage p to (FromMember placed) passed = absurd (cc)
-passed_stage p to NoMemory passed = absurd (cc)
+-- a Judge is followed by an Act or a Complete
+abbrev judged : Posted → Told → Option (ℕ × LegacyCmd) → Stage
+judged p told o = elim o [ Some to ↦ acting p to | None ↦ completing (kept p) told ]
 
-decided_stage : (p : Posted) (told : Told) → IsJudgeTold told → passed_on told ≡ None → after_judge (kept p) told ≡ completing_for p told
-decided_stage p (FromOwner placed) kind passed = step placed.at placed.reply kind passed
-  where
-    step : (at : ℕ) (reply : OwnerReply) → IsVerdict reply → passed_on (FromOwner (record { at = at; reply = reply })) ≡ None → after_judge (kept p) (FromOwner (record { at = at; reply = reply })) ≡ completing_for p (FromOwner (record { at = at; reply = reply }))
-    step at Done kind passed = absurd kind
-    step at (Listed bits) kind passed = same_floor p (FromOwner (record { at = at; reply = Listed bits })) 0 (refusal_alone 0)
-    step at Used kind passed = same_floor p (FromOwner (record { at = at; reply = Used })) 0 (refusal_alone 0)
-    step at (Refused status qualifier floor) kind passed = same_floor p (FromOwner (record { at = at; reply = Refused status qualifier floor })) floor (refusal_alone floor)
-    step at (Legacy member access) kind passed = absurd (cc)
-decided_stage p NoMemory kind passed = same_floor p NoMemory 0 (refusal_alone 0)
-decided_stage p (FromQueue placed) kind passed = absurd kind
-decided_stage p (FromMember placed) kind passed = absurd kind
+judged_stage : (p : Posted) (told : Told) (o : Option (ℕ × LegacyCmd)) → passed_on told ≡ o → after_judge (kept p) told ≡ judged p told o
+judged_stage p told o passed = ap (judged p told) passed
 
-acted_stage : (p : Posted) (told : Told) → IsMemberTold told → after_act (kept p) told ≡ completing_for p told
-acted_stage p (FromMember placed) kind = step placed.at placed.reply kind
-  where
-    step : (at : ℕ) (reply : MemberReply) → IsActReply reply → after_act (kept p) (FromMember (record { at = at; reply = reply })) ≡ completing_for p (FromMember (record { at = at; reply = reply }))
-    step at (Data bytes) kind = same_floor p (FromMember (record { at = at; reply = Data bytes })) (at + 1) (place_alone at)
-    step at Written kind = same_floor p (FromMember (record { at = at; reply = Written })) (at + 1) (place_alone at)
-    step at Info kind = same_floor p (FromMember (record { at = at; reply = Info })) (at + 1) (place_alone at)
-    step at (RefusedIt why) kind = same_floor p (FromMember (record { at = at; reply = RefusedIt why })) (at + 1) (place_alone at)
-    step at (Gone floor) kind = same_floor p (FromMember (record { at = at; reply = Gone floor })) (at + 1) (place_alone at)
-    step at _ kind = absurd kind
-acted_stage p NoMemory kind = same_floor p NoMemory 0 (refusal_alone 0)
-acted_stage p (FromOwner placed) kind = absurd kind
-acted_stage p (FromQueue placed) kind = absurd kind
+-- ---- the floor of an Act
 
--- ---- the answers to an ask of the grammar
+-- what a Judge that is passed on was answered tells no floor
+no_floor : (told : Told) (to : ℕ × LegacyCmd) (ask : Ask) → passed_on told ≡ Some to → floor_fetched (ask, told) ≡ None
+no_floor (FromOwner placed) to ask passed = refl
+no_floor (FromQueue placed) to ask passed = absurd (cc)
+no_floor (FromMember placed) to ask passed = refl
+no_floor NoMemory to ask passed = refl
+
+found_floor : (p : Posted) (ask : Ask) (told : Told) → Finds p told → floor_fetched (ask, told) ≡ Some p.tag.floor
+found_floor p ask (FromQueue placed) finds = ap (λ (reply : RingReply). floor_fetched (ask, FromQueue (record { at = placed.at; reply = reply }))) finds
+found_floor p ask (FromOwner placed) finds = absurd finds
+found_floor p ask (FromMember placed) finds = absurd finds
+found_floor p ask NoMemory finds = absurd finds
+
+act_floor : (p : Posted) (to : ℕ × LegacyCmd) (pop judge : Exchange) → Finds p pop.1 → passed_on judge.1 ≡ Some to → latest_or 0 floor_fetched (judge ∷ pop ∷ []) ≡ p.tag.floor
+act_floor p to pop judge finds passed =
+    ap (λ (o : Option ℕ). unwrap_or o (latest_or 0 floor_fetched (pop ∷ []))) (no_floor judge.1 to judge.0 passed)
+    ∙ ap (λ (o : Option ℕ). unwrap_or o 0) (found_floor p pop.0 pop.1 finds)
+
+-- ---- the answers to a Pop
 
 pop_answered : (k : ℕ) (x : Exchange) → IsPop k x → AnswersAsk x.0 x.1 → IsPopTold x.1
 pop_answered k x is answers = pop_told k x.1 (subst (λ ask. AnswersAsk ask x.1) is answers)
-
-judge_answered : (p : Posted) (x : Exchange) → IsJudge p x → AnswersAsk x.0 x.1 → IsJudgeTold x.1
-judge_answered p x is answers = judge_told p.bytes p.writable x.1 (subst (λ ask. AnswersAsk ask x.1) is answers)
-
-member_answered : (p : Posted) (to : ℕ × LegacyCmd) (x : Exchange) → IsAct p to x → AnswersAsk x.0 x.1 → IsMemberTold x.1
-member_answered p to x is answers = act_answered to.0 p.tag.floor to.1 x.1 (subst (λ ask. AnswersAsk ask x.1) is answers)
 
 -- ---- from a run to the grammar
 
@@ -127,8 +92,8 @@ data Has (k : ℕ) : Stage → List Exchange → Type 0 where
   begins : Has k Popping []
   found : (p : Posted) (pop : Exchange) → IsPop k pop → Finds p pop.1 → Has k (judging p) (pop ∷ [])
   passes : (p : Posted) (to : ℕ × LegacyCmd) (pop judge : Exchange) → IsPop k pop → Finds p pop.1 → IsJudge p judge → passed_on judge.1 ≡ Some to → Has k (acting p to) (judge ∷ pop ∷ [])
-  decides : (p : Posted) (pop judge : Exchange) → IsPop k pop → Finds p pop.1 → IsJudge p judge → passed_on judge.1 ≡ None → Has k (completing_for p judge.1) (judge ∷ pop ∷ [])
-  carries : (p : Posted) (to : ℕ × LegacyCmd) (pop judge act : Exchange) → IsPop k pop → Finds p pop.1 → IsJudge p judge → passed_on judge.1 ≡ Some to → IsAct p to act → Has k (completing_for p act.1) (act ∷ judge ∷ pop ∷ [])
+  decides : (p : Posted) (pop judge : Exchange) → IsPop k pop → Finds p pop.1 → IsJudge p judge → passed_on judge.1 ≡ None → Has k (completing (kept p) judge.1) (judge ∷ pop ∷ [])
+  carries : (p : Posted) (to : ℕ × LegacyCmd) (pop judge act : Exchange) → IsPop k pop → Finds p pop.1 → IsJudge p judge → passed_on judge.1 ≡ Some to → IsAct to act → Has k (completing (kept p) act.1) (act ∷ judge ∷ pop ∷ [])
   ends : (xs : List Exchange) → IsService k xs → Has k Ended xs
 
 pop_finds : (told : Told) → IsPopTold told → FindsNothing told ⊎ ((p : Posted) × Finds p told)
@@ -145,20 +110,16 @@ pop_has : (k : ℕ) (pop : Exchange) → IsPop k pop → FindsNothing pop.1 ⊎ 
 pop_has k pop is (inl nothing) = subst (λ stage. Has k stage (pop ∷ [])) (sym (nothing_stage pop.1 nothing)) (ends (pop ∷ []) (finds_nothing pop is nothing))
 pop_has k pop is (inr some) = subst (λ stage. Has k stage (pop ∷ [])) (sym (found_stage some.0 pop.1 some.1)) (found some.0 pop is some.1)
 
-judge_has : (k : ℕ) (p : Posted) (pop judge : Exchange) → IsPop k pop → Finds p pop.1 → IsJudge p judge → IsJudgeTold judge.1 → (o : Option (ℕ × LegacyCmd)) → passed_on judge.1 ≡ o → Has k (after_judge (kept p) judge.1) (judge ∷ pop ∷ [])
-judge_has k p pop judge is_pop finds is kind None passed = subst (λ stage. Has k stage (judge ∷ pop ∷ [])) (sym (decided_stage p judge.1 kind passed)) (decides p pop judge is_pop finds is passed)
-judge_has k p pop judge is_pop finds is kind (Some to) passed = subst (λ stage. Has k stage (judge ∷ pop ∷ [])) (sym (passed_stage p to judge.1 passed)) (passes p to pop judge is_pop finds is passed)
+judge_has : (k : ℕ) (p : Posted) (pop judge : Exchange) → IsPop k pop → Finds p pop.1 → IsJudge p judge → (o : Option (ℕ × LegacyCmd)) → passed_on judge.1 ≡ o → Has k (judged p judge.1 o) (judge ∷ pop ∷ [])
+judge_has k p pop judge is_pop finds is None passed = decides p pop judge is_pop finds is passed
+judge_has k p pop judge is_pop finds is (Some to) passed = passes p to pop judge is_pop finds is passed
 
 has_more : (k : ℕ) (stage : Stage) (xs : List Exchange) → Has k stage xs → (x : Exchange) → next_ask k stage ≡ Some x.0 → AnswersAsk x.0 x.1 → Has k (after stage x.1) (x ∷ xs)
 has_more k _ _ begins x next answers =
     let is : IsPop k x = sym (some_same _ _ next) in
     pop_has k x is (pop_finds x.1 (pop_answered k x is answers))
-has_more k _ _ (found p pop is_pop finds) x next answers =
-    let is : IsJudge p x = sym (some_same _ _ next) in
-    judge_has k p pop x is_pop finds is (judge_answered p x is answers) (passed_on x.1) refl
-has_more k _ _ (passes p to pop judge is_pop finds is_judge passed) x next answers =
-    let is : IsAct p to x = sym (some_same _ _ next) in
-    subst (λ stage. Has k stage (x ∷ judge ∷ pop ∷ [])) (sym (acted_stage p x.1 (member_answered p to x is answers))) (carries p to pop judge x is_pop finds is_judge passed is)
+has_more k _ _ (found p pop is_pop finds) x next answers = judge_has k p pop x is_pop finds (sym (some_same _ _ next)) (passed_on x.1) refl
+has_more k _ _ (passes p to pop judge is_pop finds is_judge passed) x next answers = carries p to pop judge x is_pop finds is_judge passed (p.tag.floor, sym (some_same _ _ next))
 has_more k _ _ (decides p pop judge is_pop finds is_judge passed) x next answers =
     ends (x ∷ judge ∷ pop ∷ []) (is_decided p pop judge x is_pop finds is_judge passed (sym (some_same _ _ next)))
 has_more k _ _ (carries p to pop judge act is_pop finds is_judge passed is_act) x next answers =
@@ -168,6 +129,19 @@ has_more k _ _ (ends xs service) x next answers = absurd (cc)
 has : (k : ℕ) (xs : List Exchange) → AreAnswered xs → AreAsked k xs → Has k (stage_after xs) xs
 has k [] answered asked = begins
 has k (x ∷ past) answered asked = has_more k (stage_after past) past (has k past answered.1 asked.1) x asked.0 answered.0
+
+-- at which floor it asks
+at_floor : (k : ℕ) (stage : Stage) (xs : List Exchange) → Has k stage xs → (ask : Ask) → next_ask k stage ≡ Some ask → IsAtFloor (latest_or 0 floor_fetched xs) ask
+at_floor k _ _ begins ask next = subst (IsAtFloor 0) (some_same _ _ next) tt
+at_floor k _ _ (found p pop is_pop finds) ask next = subst (IsAtFloor _) (some_same _ _ next) tt
+at_floor k _ _ (passes p to pop judge is_pop finds is_judge passed) ask next = subst (IsAtFloor _) (some_same _ _ next) (sym (act_floor p to pop judge finds passed))
+at_floor k _ _ (decides p pop judge is_pop finds is_judge passed) ask next = subst (IsAtFloor _) (some_same _ _ next) tt
+at_floor k _ _ (carries p to pop judge act is_pop finds is_judge passed is_act) ask next = subst (IsAtFloor _) (some_same _ _ next) tt
+at_floor k _ _ (ends xs service) ask next = absurd (cc)
+
+at_floors : (k : ℕ) (xs : List Exchange) → AreAnswered xs → AreAsked k xs → AreAtFloors xs
+at_floors k [] answered asked = tt
+at_floors k (x ∷ past) answered asked = (at_floor k (stage_after past) past (has k past answered.1 asked.1) x.0 asked.0, at_floors k past answered.1 asked.1)
 
 ended : (k : ℕ) (stage : Stage) (xs : List Exchange) → Has k stage xs → next_ask k stage ≡ None → IsService k xs
 ended k _ _ begins none = absurd (cc)
@@ -194,10 +168,10 @@ unfolding completed_late
 complete_may_be_late k s bytes floor = (4, refl, record { history = []; legal = tt; place = refl; most = lit≤ tt; reply = refl })
 
 abbrev completion : ℕ → Posted → Told → Exchange
-completion k p told = (Queue k (Complete p.seq (completed_with told p.writable) (max p.tag.floor (max (behind told) (refusal told)))), completed_late)
+completion k p told = (Queue k (Complete p.seq (completed_with told p.writable) (completed_under p.tag.floor told)), completed_late)
 
 completion_answered : (k : ℕ) (p : Posted) (told : Told) → AnswersAsk (completion k p told).0 completed_late
-completion_answered k p told = complete_may_be_late k p.seq (completed_with told p.writable) (max p.tag.floor (max (behind told) (refusal told)))
+completion_answered k p told = complete_may_be_late k p.seq (completed_with told p.writable) (completed_under p.tag.floor told)
 
 finds_none : FindsNothing popped_nothing
 unfolding popped_nothing
@@ -210,7 +184,7 @@ comes_on k _ _ (found p pop is_pop finds) answered some =
     (judge, completion k p NoMemory ∷ [], ((completion_answered k p NoMemory, (tt, answered)), is_decided p pop judge (completion k p NoMemory) is_pop finds refl refl refl))
 comes_on k _ _ (passes p to pop judge is_pop finds is_judge passed) answered some =
     let act : Exchange = (Member to.0 p.tag.floor (Act to.1), NoMemory) in
-    (act, completion k p NoMemory ∷ [], ((completion_answered k p NoMemory, (tt, answered)), is_carried_out p to pop judge act (completion k p NoMemory) is_pop finds is_judge passed refl refl))
+    (act, completion k p NoMemory ∷ [], ((completion_answered k p NoMemory, (tt, answered)), is_carried_out p to pop judge act (completion k p NoMemory) is_pop finds is_judge passed (p.tag.floor, refl) refl))
 comes_on k _ _ (decides p pop judge is_pop finds is_judge passed) answered some =
     (completion k p judge.1, [], ((completion_answered k p judge.1, answered), is_decided p pop judge (completion k p judge.1) is_pop finds is_judge passed refl))
 comes_on k _ _ (carries p to pop judge act is_pop finds is_judge passed is_act) answered some =
@@ -219,31 +193,55 @@ comes_on k _ _ (ends xs service) answered some = absurd (cc)
 
 -- ---- and from the grammar to a run
 
-pop_runs : (k : ℕ) (pop : Exchange) → IsPop k pop → AreAsked k (pop ∷ [])
-pop_runs k pop is = (ap Some (sym is), tt)
+-- an ask at this floor, if it is on a member
+abbrev with_floor : ℕ → Ask → Ask
+with_floor floor (Member id at call) = Member id floor call
+with_floor floor (Owner call) = Owner call
+with_floor floor (Queue index call) = Queue index call
 
-judge_runs : (k : ℕ) (p : Posted) (pop judge : Exchange) → IsPop k pop → Finds p pop.1 → IsJudge p judge → AreAsked k (judge ∷ pop ∷ [])
-judge_runs k p pop judge is_pop finds is = (ap (next_ask k) (found_stage p pop.1 finds) ∙ ap Some (sym is), pop_runs k pop is_pop)
+with_its_own : (floor : ℕ) (ask : Ask) → IsAtFloor floor ask → with_floor floor ask ≡ ask
+with_its_own floor (Member id at call) is = ap (λ (f : ℕ). Member id f call) (sym is)
+with_its_own floor (Owner call) is = refl
+with_its_own floor (Queue index call) is = refl
+
+-- each ask is the machine's next, but for its floor
+abbrev AreNearlyAsked : ℕ → List Exchange → Type 0
+AreNearlyAsked k [] = Unit {0}
+AreNearlyAsked k (x ∷ past) = (next_ask k (stage_after past) ≡ Some (with_floor (latest_or 0 floor_fetched past) x.0)) × AreNearlyAsked k past
+
+asked_at : (k : ℕ) (xs : List Exchange) → AreNearlyAsked k xs → AreAtFloors xs → AreAsked k xs
+asked_at k [] asked at = tt
+asked_at k (x ∷ past) asked at = (asked.0 ∙ ap Some (with_its_own (latest_or 0 floor_fetched past) x.0 at.0), asked_at k past asked.1 at.1)
+
+-- behind these exchanges
+abbrev nearly : List Exchange → Ask → Option Ask
+nearly past ask = Some (with_floor (latest_or 0 floor_fetched past) ask)
+
+pop_runs : (k : ℕ) (pop : Exchange) → IsPop k pop → AreNearlyAsked k (pop ∷ [])
+pop_runs k pop is = (ap (nearly []) (sym is), tt)
+
+judge_runs : (k : ℕ) (p : Posted) (pop judge : Exchange) → IsPop k pop → Finds p pop.1 → IsJudge p judge → AreNearlyAsked k (judge ∷ pop ∷ [])
+judge_runs k p pop judge is_pop finds is = (ap (next_ask k) (found_stage p pop.1 finds) ∙ ap (nearly (pop ∷ [])) (sym is), pop_runs k pop is_pop)
 
 -- the stage after a Pop and a Judge
 second : (p : Posted) (pop judge : Exchange) → Finds p pop.1 → stage_after (judge ∷ pop ∷ []) ≡ after_judge (kept p) judge.1
 second p pop judge finds = ap (λ stage. after stage judge.1) (found_stage p pop.1 finds)
 
-run_of : (k : ℕ) (xs : List Exchange) → AreAnswered xs → IsService k xs → AreAsked k xs × (next_ask k (stage_after xs) ≡ None)
-run_of k _ answered (finds_nothing pop is_pop nothing) = (pop_runs k pop is_pop, ap (next_ask k) (nothing_stage pop.1 nothing))
-run_of k _ answered (is_decided p pop judge complete is_pop finds is_judge passed is_complete) =
-    let kind = judge_answered p judge is_judge answered.1.0 in
-    let stage = second p pop judge finds ∙ decided_stage p judge.1 kind passed in
-    ((ap (next_ask k) stage ∙ ap Some (sym is_complete), judge_runs k p pop judge is_pop finds is_judge), ap (λ s. next_ask k (after s complete.1)) stage)
-run_of k _ answered (is_carried_out p to pop judge act complete is_pop finds is_judge passed is_act is_complete) =
-    let kind = member_answered p to act is_act answered.1.0 in
-    let before = second p pop judge finds ∙ passed_stage p to judge.1 passed in
-    let stage = ap (λ s. after s act.1) before ∙ acted_stage p act.1 kind in (
-      (ap (next_ask k) stage ∙ ap Some (sym is_complete), (ap (next_ask k) before ∙ ap Some (sym is_act), judge_runs k p pop judge is_pop finds is_judge)),
+run_of : (k : ℕ) (xs : List Exchange) → IsService k xs → AreNearlyAsked k xs × (next_ask k (stage_after xs) ≡ None)
+run_of k _ (finds_nothing pop is_pop nothing) = (pop_runs k pop is_pop, ap (next_ask k) (nothing_stage pop.1 nothing))
+run_of k _ (is_decided p pop judge complete is_pop finds is_judge passed is_complete) =
+    let stage = second p pop judge finds ∙ judged_stage p judge.1 None passed in
+    ((ap (next_ask k) stage ∙ ap (nearly (judge ∷ pop ∷ [])) (sym is_complete), judge_runs k p pop judge is_pop finds is_judge), ap (λ s. next_ask k (after s complete.1)) stage)
+run_of k _ (is_carried_out p to pop judge act complete is_pop finds is_judge passed is_act is_complete) =
+    let before = second p pop judge finds ∙ judged_stage p judge.1 (Some to) passed in
+    let stage = ap (λ s. after s act.1) before in
+    let floor_is = ap (λ (f : ℕ). Some (Member to.0 f (Act to.1))) (sym (act_floor p to pop judge finds passed)) in
+    let asks = ap (nearly (judge ∷ pop ∷ [])) (sym is_act.1) in (
+      (ap (next_ask k) stage ∙ ap (nearly (act ∷ judge ∷ pop ∷ [])) (sym is_complete), (ap (next_ask k) before ∙ floor_is ∙ asks, judge_runs k p pop judge is_pop finds is_judge)),
       ap (λ s. next_ask k (after s complete.1)) stage,
     )
 
-asked_before : (k : ℕ) (more xs : List Exchange) → AreAsked k (more ++ xs) → AreAsked k xs
+asked_before : (k : ℕ) (more xs : List Exchange) → AreNearlyAsked k (more ++ xs) → AreNearlyAsked k xs
 asked_before k [] xs asked = asked
 asked_before k (x ∷ more) xs asked = asked_before k more xs asked.1
 
@@ -256,16 +254,18 @@ is_some_next o y e = subst IsSome (sym e) (search)
 
 -- ---- both ways
 
-pub whole : (k : ℕ) (xs : List Exchange) → IsWholeRun k xs ↔ IsAnsweredService k xs
+pub whole : (k : ℕ) (xs : List Exchange) → IsWholeRun k xs ↔ (IsAnsweredService k xs × AreAtFloors xs)
 whole k xs = (
-  λ run. (run.0, ended k (stage_after xs) xs (has k xs run.0 run.1) run.2),
-  λ is. let run = run_of k xs is.0 is.1 in (is.0, run.0, run.1),
+  λ run. ((run.0, ended k (stage_after xs) xs (has k xs run.0 run.1) run.2), at_floors k xs run.0 run.1),
+  λ is. let run = run_of k xs is.0.1 in (is.0.0, asked_at k xs run.0 is.1, run.1),
 )
 
-pub begun : (k : ℕ) (xs : List Exchange) → IsOpenRun k xs ↔ BeginsService k xs
+pub begun : (k : ℕ) (xs : List Exchange) → IsOpenRun k xs ↔ (BeginsService k xs × AreAtFloors xs)
 begun k xs = (
-  λ run. comes_on k (stage_after xs) xs (has k xs run.0 run.1) run.0 run.2,
+  λ run. (comes_on k (stage_after xs) xs (has k xs run.0 run.1) run.0 run.2, at_floors k xs run.0 run.1),
   λ b.
-      let asked = asked_before k b.1 (b.0 ∷ xs) (run_of k (b.1 ++ b.0 ∷ xs) b.2.0 b.2.1).0 in
-      ((answered_before b.1 (b.0 ∷ xs) b.2.0).1, asked.1, is_some_next (next_ask k (stage_after xs)) b.0.0 asked.0),
+      let next = b.0.0 in
+      let more = b.0.1 in
+      let asked = asked_before k more (next ∷ xs) (run_of k (more ++ next ∷ xs) b.0.2.1).0 in
+      ((answered_before more (next ∷ xs) b.0.2.0).1, asked_at k xs asked.1 b.1, is_some_next (next_ask k (stage_after xs)) (with_floor (latest_or 0 floor_fetched xs) next.0) asked.0),
 )

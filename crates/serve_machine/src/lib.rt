@@ -2,8 +2,9 @@
 //! carried out by its member where the owner says so, and completed.
 //!
 //! It stands on `group_calls`, whose asks and answers it speaks, and on `admin_wire` for the bytes of completions. Its
-//! main clauses are those of `Server::next`, the ask of the stage, and of `Server::feed`, the stage after an answer. In
-//! `laws` stands that what the machine asks is one service by a grammar. Nothing here takes memory.
+//! main clauses are those of `Server::next`, the ask of the stage, and of `Server::feed`, the stage after an answer;
+//! `owner_done` and `access_done` are the completion rule. In `laws` stands that what the machine asks is one service
+//! by a grammar, and why a completion has its status. Nothing here takes memory.
 #![tactic(auto)]
 
 mod completion;
@@ -12,6 +13,6 @@ mod server;
 mod stage;
 mod turn;
 
-pub use completion::info as notify_info;
+pub use completion::{access_done, owner_done};
 pub use server::Server;
 pub use stage::{Fetched, Stage};

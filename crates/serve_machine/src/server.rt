@@ -3,10 +3,10 @@ ghost use Rattle.std.specs.Prelude.{◌≡◌, ◌≤◌, IsSomeAnd, IfSome, is_
 ghost use Rattle.group_calls.specs.Asks.{AnswersAsk};
 ghost use Rattle.group_calls.specs.Limits.{writable_limit};
 ghost use Rattle.serve_machine.specs.Service.{next_ask, after, is_serving};
-ghost use Rattle.serve_machine.specs.Within.{writable_in, result_in, payload_limit, IsWithinAsk};
+ghost use Rattle.serve_machine.specs.Within.{writable_in, IsWithinAsk};
 
 use crate::stage::Stage;
-use crate::turn::{after_act, after_judge, after_pop};
+use crate::turn::{after_judge, after_pop, completing};
 use group_calls::{Ask, MemberCall, OwnerCall, RingCall, Told};
 
 /// One service of an administration queue: VIRTIO 1.3, 2.13 (administration virtqueues). Of this project.
@@ -15,7 +15,6 @@ pub struct Server {
     queue: u32,
     stage: Stage,
     ghost few_writable: { writable_in stage ≤ writable_limit },
-    ghost result_fits: { result_in stage ≤ payload_limit },
 }
 
 impl Server {
@@ -41,6 +40,13 @@ impl Server {
         }
     }
 
+    /// The number of the queue.
+    pub fn queue(&self) -> u32
+        ensures { result ≡ self.now.queue }
+    {
+        self.queue
+    }
+
     /// The next ask, or nothing once the service has ended. Judge is asked with at most 256 writable bytes.
     pub fn next(&self) -> Option<Ask>
         ensures value { result ≡ next_ask self.now.queue self.now.stage }
@@ -61,7 +67,7 @@ impl Server {
                 access,
             } => Some(Ask::Member {
                 id: *member,
-                floor: command.floor,
+                floor: command.tag.floor,
                 call: MemberCall::Act(access.copy()),
             }),
             Stage::Completing { seq, bytes, floor } => Some(Ask::Queue {
@@ -94,16 +100,9 @@ impl Server {
         self.stage = match &self.stage {
             Stage::Popping => after_pop(told),
             Stage::Judging { command, bytes: _ } => after_judge(*command, told),
-            Stage::Acting { command, .. } => after_act(*command, told),
+            Stage::Acting { command, .. } => completing(*command, told),
             _ => Stage::Ended,
         };
-    }
-
-    /// The number of the queue.
-    pub fn queue(&self) -> u32
-        ensures { result ≡ self.now.queue }
-    {
-        self.queue
     }
 
     /// Nothing is left to ask.

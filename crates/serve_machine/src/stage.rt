@@ -2,14 +2,14 @@
 
 use admin_wire::LegacyCmd;
 use board_text::Piece;
+use group_calls::Tag;
 
-/// A fetched command: its number, how many bytes its completion may have, at most 256, and the floor in its tag. Of
-/// this project.
+/// A fetched command: its number, how many bytes its completion may have, at most 256, and its tag. Of this project.
 #[derive(Clone, Copy, Debug, PartialEq, Eq)]
 pub struct Fetched {
     pub seq: u64,
     pub writable: u32,
-    pub floor: u64,
+    pub tag: Tag,
 }
 
 /// How far a service is. Of this project.

@@ -1,12 +1,12 @@
 //! The stage after an answer.
-ghost use Rattle.std.specs.Prelude.{◌≡◌, ◌+◌};
-ghost use Rattle.serve_machine.specs.Service.{after_pop, after_judge, after_act};
-ghost use Rattle.serve_machine.specs.Within.{IsActTold};
+ghost use Rattle.std.specs.Prelude.{◌≡◌, ◌≤◌};
+ghost use Rattle.group_calls.specs.Limits.{writable_limit};
+ghost use Rattle.serve_machine.specs.Service.{after_pop, completing, after_judge};
+ghost use Rattle.serve_machine.specs.Within.{IsLow};
 
-use crate::completion::{completing, info, listed, refusing};
+use crate::completion::{completed_under, completed_with};
 use crate::stage::{Fetched, Stage};
-use board_text::Piece;
-use group_calls::{MemberReply, OwnerReply, RingReply, Told};
+use group_calls::{OwnerReply, RingReply, Told};
 
 /// After the queue was asked for a command.
 pub(crate) fn after_pop(told: &Told) -> Stage
@@ -23,7 +23,7 @@ pub(crate) fn after_pop(told: &Told) -> Stage
                 command: Fetched {
                     seq: *seq,
                     writable: *writable,
-                    floor: tag.floor,
+                    tag: *tag,
                 },
                 bytes: bytes.copy(),
             },
@@ -33,19 +33,27 @@ pub(crate) fn after_pop(told: &Told) -> Stage
     }
 }
 
-/// After the owner was asked for its verdict.
+/// After the answer that decides the command, which is completed by the completion rule.
+pub(crate) fn completing(command: Fetched, told: &Told) -> Stage
+    requires few { command.writable ≤ writable_limit }
+    requires low { IsLow told.now }
+    ensures { result ≡ completing command told.now }
+{
+    Stage::Completing {
+        seq: command.seq,
+        bytes: completed_with(told, command.writable),
+        floor: completed_under(command.tag.floor, told),
+    }
+}
+
+/// After the owner was asked for its verdict: a register access goes to its member.
 pub(crate) fn after_judge(command: Fetched, told: &Told) -> Stage
+    requires few { command.writable ≤ writable_limit }
+    requires low { IsLow told.now }
     ensures { result ≡ after_judge command told.now }
 {
     match told {
         Told::Owner(placed) => match &placed.reply {
-            OwnerReply::List { bits } => listed(command, *bits),
-            OwnerReply::Used => refusing(command, 0, 0, 0),
-            OwnerReply::Refused {
-                status,
-                qualifier,
-                floor,
-            } => refusing(command, *status, *qualifier, *floor),
             OwnerReply::Legacy {
                 member,
                 command: access,
@@ -54,33 +62,8 @@ pub(crate) fn after_judge(command: Fetched, told: &Told) -> Stage
                 member: *member,
                 access: access.copy(),
             },
-            OwnerReply::Done => Stage::Ended,
+            _ => completing(command, told),
         },
-        Told::NoMemory => refusing(command, 12, 0, 0),
-        _ => Stage::Ended,
-    }
-}
-
-/// After the member was asked to carry out the access.
-pub(crate) fn after_act(command: Fetched, told: &Told) -> Stage
-    requires { IsActTold told.now }
-    ensures { result ≡ after_act command told.now }
-{
-    match told {
-        Told::Member(placed) => {
-            let floor = placed.at + 1;
-            match &placed.reply {
-                MemberReply::Data(data) => {
-                    completing(command, 0, 0, &Piece::from_slice(data.as_slice()), floor)
-                }
-                MemberReply::Written => refusing(command, 0, 0, floor),
-                MemberReply::Info => completing(command, 0, 0, &info(), floor),
-                MemberReply::Refused(_) => refusing(command, 22, 2, floor),
-                MemberReply::Gone { .. } => refusing(command, 22, 4, floor),
-                _ => Stage::Ended,
-            }
-        }
-        Told::NoMemory => refusing(command, 12, 0, 0),
-        _ => Stage::Ended,
+        _ => completing(command, told),
     }
 }

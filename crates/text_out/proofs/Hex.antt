@@ -1,7 +1,7 @@
 -- The hex of a list in parts.
-use Rattle.std.proofs.Common.{◌≡◌, ℕ, ◌+◌, List, [], ◌∷◌, ◌++◌, length, ◌≤◌, refl, sym, ap, ◌∙◌, append_assoc}
+use Rattle.std.proofs.Common.{◌≡◌, ℕ, ◌+◌, List, [], ◌∷◌, ◌++◌, length, ◌≤◌, refl, sym, ap, ◌∙◌, append_assoc, arith}
 use Rattle.std.specs.Prelude.{take, drop, ◌/◌, ◌%◌, slice_index}
-use Rattle.std.proofs.lemmas.List.{take-append-drop, drop-drop, drop_all, append-nil}
+use Rattle.std.proofs.lemmas.List.{take-append-drop, take-append-le, length-append, drop-drop, drop_all, append-nil}
 use Rattle.hex.specs.Hex.{lower_digits, encode_with, encode_lower}
 
 pub encode_append : (t xs ys : List ℕ) → encode_with t (xs ++ ys) ≡ encode_with t xs ++ encode_with t ys
@@ -29,3 +29,8 @@ part_on output grown start bytes from count is so_far =
 pub all_parts : (output start bytes : List ℕ) (from : ℕ) → length bytes ≤ from → output ++ encode_lower (drop from bytes) ≡ start ++ encode_lower bytes → output ≡ start ++ encode_lower bytes
 unfolding encode_with
 all_parts output start bytes from past so_far = sym (append-nil output) ∙ ap (λ (rest : List ℕ). output ++ encode_lower rest) (sym (drop_all from bytes past)) ∙ so_far
+
+-- what was there before is there, with more behind it
+pub kept_on : (output grown start more : List ℕ) (before : ℕ) → grown ≡ output ++ more → before ≤ length output → take before output ≡ start → (before ≤ length grown) × (take before grown ≡ start)
+kept_on output grown start more before is within kept =
+    (omega (arith, ap length is, length-append output more), ap (take before) is ∙ take-append-le before output more within ∙ kept)

@@ -1,1 +1,8 @@
-pub mod RunGrammar
+mod Replies
+mod Stages
+mod RunGrammar
+mod Causes
+mod HeardLaws
+mod BringRunGrammar
+mod BroughtLaws
+mod Opcodes

@@ -1,4 +1,4 @@
-//! How far an access is, and what is known of the member.
+//! How far an access is, what is known of the member, and what the access is answered.
 
 use board_text::Piece;
 
@@ -25,7 +25,7 @@ pub enum Started {
 
 /// How far the open access is. Of this project.
 #[derive(Debug, Drop, PartialEq, Eq)]
-pub enum Open {
+pub enum Stage {
     /// No access is open.
     Nothing,
     /// The member is to be notified: VIRTIO 1.3, 2.9 (driver notifications).
@@ -57,8 +57,8 @@ pub struct Known {
 
 /// After an answer: how far the access is, what is known, and the answer that ends the access. Of this project.
 #[derive(Debug, Drop, PartialEq, Eq)]
-pub struct Turned {
-    pub stage: Open,
+pub struct After {
+    pub stage: Stage,
     pub known: Known,
     pub answer: Option<Answer>,
 }

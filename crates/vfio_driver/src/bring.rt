@@ -1,10 +1,13 @@
 //! Bring-up as a machine.
-ghost use Rattle.std.specs.Prelude.{◌≡◌, ◌<◌, true, Some, is_none, IsSomeAnd};
+ghost use Rattle.std.specs.Prelude.{◌≡◌, true, Some, is_none, IsSomeAnd};
 ghost use Rattle.group_calls.specs.Asks.{AnswersAsk};
-ghost use Rattle.vfio_driver.specs.Bring.{step_bytes, step_room, next_ask, turned, brought_by};
+ghost use Rattle.vfio_driver.specs.Bring.{command_bytes, command_room, first_stage, next_ask, after, brought_by};
 
-use crate::bring_turn::{Brought, Step, Way, after_post, after_take};
-use admin_wire::{LegacyCmd, write_legacy, write_query, write_use};
+use crate::bring_after::{after_post, after_take};
+use crate::bring_stage::{BringCommand, BringStage, Brought};
+use admin_wire::{
+    LegacyCmd, QUERY_WRITABLE, USE_WRITABLE, writable_for, write_legacy, write_query, write_use,
+};
 use board_text::Piece;
 use group_calls::{Ask, RingCall, Tag, Told};
 
@@ -12,28 +15,28 @@ use group_calls::{Ask, RingCall, Tag, Told};
 #[derive(Debug, Drop)]
 pub struct BringUp {
     member: u32,
-    way: Way,
+    stage: BringStage,
 }
 
 // The bytes of a command.
-fn step_bytes(member: u32, step: Step) -> Piece
-    ensures { result ≡ step_bytes member step }
+fn command_bytes(member: u32, command: BringCommand) -> Piece
+    ensures { result ≡ command_bytes member command }
 {
-    match step {
-        Step::Query => write_query(),
-        Step::Use => write_use(127),
-        Step::Info => write_legacy(u64::from(member), &LegacyCmd::Info),
+    match command {
+        BringCommand::Query => write_query(),
+        BringCommand::Use => write_use(127),
+        BringCommand::Info => write_legacy(u64::from(member), &LegacyCmd::Info),
     }
 }
 
 // How many bytes its completion may have.
-fn step_room(step: Step) -> u32
-    ensures { result ≡ step_room step }
+fn command_room(command: BringCommand) -> u32
+    ensures { result ≡ command_room command }
 {
-    match step {
-        Step::Query => 16,
-        Step::Use => 8,
-        Step::Info => 72,
+    match command {
+        BringCommand::Query => QUERY_WRITABLE,
+        BringCommand::Use => USE_WRITABLE,
+        BringCommand::Info => writable_for(&LegacyCmd::Info),
     }
 }
 
@@ -41,65 +44,68 @@ impl BringUp {
     /// The two list commands where the member is 0, else its notify information.
     pub fn new(member: u32) -> BringUp
         ensures member { result.member ≡ member }
-        ensures list { member ≡ 0 → result.way ≡ Way.Posting Step.Query }
-        ensures info { 0 < member → result.way ≡ Way.Posting Step.Info }
+        ensures stage { result.stage ≡ first_stage member }
     {
-        let step = if member == 0 { Step::Query } else { Step::Info };
+        let command = if member == 0 {
+            BringCommand::Query
+        } else {
+            BringCommand::Info
+        };
         BringUp {
             member,
-            way: Way::Posting { step },
+            stage: BringStage::Posting { command },
         }
     }
 
     /// The next ask.
     pub fn next(&self) -> Ask
-        requires { is_none (brought_by self.now.way) ≡ true }
-        ensures { Some result ≡ next_ask self.now.member self.now.way }
+        requires { is_none (brought_by self.now.stage) ≡ true }
+        ensures { Some result ≡ next_ask self.now.member self.now.stage }
     {
-        match self.way {
-            Way::Posting { step } => Ask::Queue {
+        match self.stage {
+            BringStage::Posting { command } => Ask::Queue {
                 index: 0,
                 call: RingCall::Post {
-                    bytes: step_bytes(self.member, step),
-                    writable: step_room(step),
+                    bytes: command_bytes(self.member, command),
+                    writable: command_room(command),
                     tag: Tag {
                         guest: self.member,
                         floor: 0,
                     },
                 },
             },
-            Way::Taking { step: _, seq } => Ask::Queue {
+            BringStage::Taking { command: _, seq } => Ask::Queue {
                 index: 0,
                 call: RingCall::Take { seq },
             },
-            Way::Over { brought: _ } => unreachable!(),
+            BringStage::Over { brought: _ } => unreachable!(),
         }
     }
 
     /// Goes on after the answer to the ask of `next`. Bring-up is over, or asks more.
     pub fn feed(&mut self, told: Told) -> Option<Brought>
-        requires { IsSomeAnd (next_ask self.old.member self.old.way) (λ ask. AnswersAsk ask told) }
+        requires { IsSomeAnd (next_ask self.old.member self.old.stage) (λ ask. AnswersAsk ask told) }
         ensures member { self.new.member ≡ self.old.member }
-        ensures way { self.new.way ≡ turned self.old.way told }
-        ensures brought { result ≡ brought_by (turned self.old.way told) }
+        ensures stage { self.new.stage ≡ after self.old.stage told }
+        ensures brought { result ≡ brought_by (after self.old.stage told) }
     {
         self.hear(&told)
     }
 
     /// Goes on as `feed` does, after an answer that is only lent.
     pub fn hear(&mut self, told: &Told) -> Option<Brought>
-        requires { IsSomeAnd (next_ask self.old.member self.old.way) (λ ask. AnswersAsk ask told.now) }
+        requires { IsSomeAnd (next_ask self.old.member self.old.stage) (λ ask. AnswersAsk ask told.now) }
         ensures member { self.new.member ≡ self.old.member }
-        ensures way { self.new.way ≡ turned self.old.way told.now }
-        ensures brought { result ≡ brought_by (turned self.old.way told.now) }
+        ensures stage { self.new.stage ≡ after self.old.stage told.now }
+        ensures brought { result ≡ brought_by (after self.old.stage told.now) }
     {
-        self.way = match self.way {
-            Way::Posting { step } => after_post(step, told),
-            Way::Taking { step, seq } => after_take(step, seq, told),
-            Way::Over { brought } => Way::Over { brought },
+        self.stage = match self.stage {
+            BringStage::Posting { command } => after_post(command, told),
+            BringStage::Taking { command, seq } => after_take(command, seq, told),
+            BringStage::Over { brought } => BringStage::Over { brought },
         };
-        match self.way {
-            Way::Over { brought } => Some(brought),
+        match self.stage {
+            BringStage::Over { brought } => Some(brought),
             _ => None,
         }
     }

@@ -1,12 +1,13 @@
 //! The driver of one member.
-ghost use Rattle.std.specs.Prelude.{◌≡◌, ◌+◌, ◌≤◌, ◌||◌, ℕ, Some, true, false, max, length, IsSomeAnd};
+ghost use Rattle.std.specs.Prelude.{◌≡◌, ◌+◌, Some, true, false, IsSomeAnd};
+ghost use Rattle.admin_wire.specs.Numbers.{fixed_size};
 ghost use Rattle.admin_wire.specs.Writing.{legacy_bytes, result_length};
 ghost use Rattle.group_calls.specs.Asks.{AnswersAsk};
 ghost use Rattle.io_bar.specs.Route.{count_of, is_port_width, route_of};
-ghost use Rattle.vfio_driver.specs.Access.{next_ask, turned, is_open, opened, is_started, is_read, FitsCommand};
+ghost use Rattle.vfio_driver.specs.Access.{next_ask, after, is_open, first_stage, started, learning, is_read, FitsCommand};
 
-use crate::access::{Answer, Known, Open, Started, Turned};
-use crate::turn::{posting, ringing, taking};
+use crate::access::{After, Answer, Known, Stage, Started};
+use crate::access_after::{after_notify, after_post, after_take};
 use admin_wire::{LegacyCmd, writable_for, write_legacy};
 use board_text::Piece;
 use group_calls::{Ask, Kind, MemberCall, RingCall, Tag, Told};
@@ -20,7 +21,7 @@ pub struct Driver {
     io: bool,
     msix: bool,
     known: Known,
-    stage: Open,
+    stage: Stage,
 }
 
 // Whether the command reads.
@@ -34,11 +35,11 @@ fn reads(command: &LegacyCmd) -> bool
 }
 
 // The command is to be posted for the guest.
-fn command_opened(guest: u32, queue: u32, command: &LegacyCmd) -> Open
+fn command_stage(guest: u32, queue: u32, command: &LegacyCmd) -> Stage
     requires { FitsCommand command.now }
-    ensures { result ≡ Open.Posting queue (legacy_bytes guest command.now) (8 + result_length command.now) (is_read command.now) }
+    ensures { result ≡ Stage.Posting queue (legacy_bytes guest command.now) (fixed_size + result_length command.now) (is_read command.now) }
 {
-    Open::Posting {
+    Stage::Posting {
         queue,
         bytes: write_legacy(u64::from(guest), command),
         writable: writable_for(command),
@@ -54,7 +55,7 @@ impl Driver {
         ensures io { result.io ≡ true }
         ensures msix { result.msix ≡ false }
         ensures known { result.known ≡ record { floor = floor; gone = false } }
-        ensures stage { result.stage ≡ Open.Nothing }
+        ensures stage { result.stage ≡ Stage.Nothing }
     {
         Driver {
             guest,
@@ -62,7 +63,7 @@ impl Driver {
             io: true,
             msix: false,
             known: Known { floor, gone: false },
-            stage: Open::Nothing,
+            stage: Stage::Nothing,
         }
     }
 
@@ -76,34 +77,34 @@ impl Driver {
         ensures io { self.new.io ≡ self.old.io }
         ensures msix { self.new.msix ≡ self.old.msix }
         ensures known { self.new.known ≡ self.old.known }
-        ensures stage { self.new.stage ≡ opened self.old.guest self.old.known (route_of self.old.bar self.old.msix self.old.io access) queue }
-        ensures started { result ≡ is_started self.old.known (route_of self.old.bar self.old.msix self.old.io access) }
+        ensures stage { self.new.stage ≡ first_stage self.old.guest self.old.known (route_of self.old.bar self.old.msix self.old.io access) queue }
+        ensures started { result ≡ started self.old.known (route_of self.old.bar self.old.msix self.old.io access) }
     {
         if self.known.gone {
-            self.stage = Open::Nothing;
+            self.stage = Stage::Nothing;
             return Started::Local;
         }
         match self.bar.route(self.msix, self.io, &access) {
             Route::Local => {
-                self.stage = Open::Nothing;
+                self.stage = Stage::Nothing;
                 Started::Local
             }
             Route::Doorbell { queue } => {
-                self.stage = Open::Ringing { queue };
+                self.stage = Stage::Ringing { queue };
                 Started::Asks
             }
             Route::Command(command) => {
-                self.stage = command_opened(self.guest, queue, &command);
+                self.stage = command_stage(self.guest, queue, &command);
                 Started::Asks
             }
         }
     }
 
-    /// An access is open.
+    /// Whether an access is open.
     pub fn is_open(&self) -> bool
         ensures { result ≡ is_open self.now.stage }
     {
-        !matches!(self.stage, Open::Nothing)
+        !matches!(self.stage, Stage::Nothing)
     }
 
     /// The next ask of the open access.
@@ -112,13 +113,13 @@ impl Driver {
         ensures { Some result ≡ next_ask self.now.guest self.now.known self.now.stage }
     {
         match &self.stage {
-            Open::Nothing => unreachable!(),
-            Open::Ringing { queue } => Ask::Member {
+            Stage::Nothing => unreachable!(),
+            Stage::Ringing { queue } => Ask::Member {
                 id: self.guest,
                 floor: self.known.floor,
                 call: MemberCall::Notify { queue: *queue },
             },
-            Open::Posting {
+            Stage::Posting {
                 queue,
                 bytes,
                 writable,
@@ -134,7 +135,7 @@ impl Driver {
                     },
                 },
             },
-            Open::Taking {
+            Stage::Taking {
                 queue,
                 seq,
                 reads: _,
@@ -152,9 +153,9 @@ impl Driver {
         ensures bar { self.new.bar ≡ self.old.bar }
         ensures io { self.new.io ≡ self.old.io }
         ensures msix { self.new.msix ≡ self.old.msix }
-        ensures stage { self.new.stage ≡ (turned self.old.known self.old.stage told).stage }
-        ensures known { self.new.known ≡ (turned self.old.known self.old.stage told).known }
-        ensures answer { result ≡ (turned self.old.known self.old.stage told).answer }
+        ensures stage { self.new.stage ≡ (after self.old.known self.old.stage told).stage }
+        ensures known { self.new.known ≡ (after self.old.known self.old.stage told).known }
+        ensures answer { result ≡ (after self.old.known self.old.stage told).answer }
     {
         self.hear(&told)
     }
@@ -166,28 +167,30 @@ impl Driver {
         ensures bar { self.new.bar ≡ self.old.bar }
         ensures io { self.new.io ≡ self.old.io }
         ensures msix { self.new.msix ≡ self.old.msix }
-        ensures stage { self.new.stage ≡ (turned self.old.known self.old.stage told.now).stage }
-        ensures known { self.new.known ≡ (turned self.old.known self.old.stage told.now).known }
-        ensures answer { result ≡ (turned self.old.known self.old.stage told.now).answer }
+        ensures stage { self.new.stage ≡ (after self.old.known self.old.stage told.now).stage }
+        ensures known { self.new.known ≡ (after self.old.known self.old.stage told.now).known }
+        ensures answer { result ≡ (after self.old.known self.old.stage told.now).answer }
     {
-        let turned = match &self.stage {
-            Open::Ringing { queue: _ } => ringing(self.known, told),
-            Open::Posting {
+        let after = match &self.stage {
+            Stage::Ringing { queue: _ } => after_notify(self.known, told),
+            Stage::Posting {
                 queue,
                 bytes: _,
                 writable: _,
                 reads,
-            } => posting(self.known, *queue, *reads, told),
-            Open::Taking { queue, seq, reads } => taking(self.known, *queue, *seq, *reads, told),
-            Open::Nothing => Turned {
-                stage: Open::Nothing,
+            } => after_post(self.known, *queue, *reads, told),
+            Stage::Taking { queue, seq, reads } => {
+                after_take(self.known, *queue, *seq, *reads, told)
+            }
+            Stage::Nothing => After {
+                stage: Stage::Nothing,
                 known: self.known,
                 answer: None,
             },
         };
-        self.stage = turned.stage;
-        self.known = turned.known;
-        turned.answer
+        self.stage = after.stage;
+        self.known = after.known;
+        after.answer
     }
 
     /// I/O is enabled or disabled for later accesses.
@@ -213,7 +216,7 @@ impl Driver {
 
     /// Learns a floor of the member, and whether the member is gone.
     pub fn learn(&mut self, floor: u64, gone: bool)
-        ensures { self.new ≡ record self.old { known = record { floor = max self.old.known.floor floor; gone = self.old.known.gone || gone } } }
+        ensures { self.new ≡ record self.old { known = learning self.old.known floor gone } }
     {
         self.known = Known {
             floor: self.known.floor.max(floor),

@@ -2,19 +2,21 @@
 //! what the access is answered; and bring-up, which posts the list commands and asks for notify information.
 //!
 //! It stands on `group_calls`, whose asks and answers it speaks, on `io_bar` for where an access goes, and on
-//! `admin_wire` for the bytes of commands. Its main clauses are those of `next`, the ask of the stage, and of `feed`, the
-//! stage, the knowledge and the answer after an answer of a cell. In `laws` stands that what the machine asks for an access
-//! is that access by a grammar. Nothing here takes memory.
+//! `admin_wire` for the bytes of commands. Its main clauses are those of `next`, the ask of the stage, and of `hear`, the
+//! stage, the knowledge and the answer after an answer of a cell. In `laws` stands that what the machines ask are an access
+//! and bring-up by their grammars, and that what a driver knows and answers is a look back over what it was told. Nothing
+//! here takes memory.
 #![tactic(auto)]
 
 mod access;
+mod access_after;
 mod bring;
-mod bring_turn;
+mod bring_after;
+mod bring_stage;
 mod driver;
 pub mod laws;
-mod turn;
 
-pub use access::{Answer, Known, Open, Started, Turned};
+pub use access::{After, Answer, Known, Stage, Started};
 pub use bring::BringUp;
-pub use bring_turn::{Brought, Step, Way};
+pub use bring_stage::{BringCommand, BringStage, Brought};
 pub use driver::Driver;

@@ -1,5 +1,5 @@
 use Rattle.std.proofs.Common.{◌∙◌, lit≤}
-use Rattle.admin_wire.proofs.Headers.{IsHeaderOf, header_from, field_read, field_read_front}
+use Rattle.admin_wire.proofs.Headers.{IsHeaderOf, header_from, same_field, field_read, field_read_front}
 use Rattle.admin_wire.proofs.command.read_header.Goals as goal
 
 pub returns-clause-opcode : goal.returns-clause-opcode
@@ -20,4 +20,4 @@ returns-clause-member c =
 pub returns-clause-list : goal.returns-clause-list
 returns-clause-list c =
     let header : IsHeaderOf c.args.bytes.now c.header_of-header.result = header_from c.args.bytes.now c.as_slice.result.now c.header_of-header.result c.as_slice.ensures.bytes c.header_of-header.ensures in
-    c.read_u64-2.ensures ∙ field_read c.args.bytes.now c.header_of-header.result 24 8 8 header (lit≤ tt) (lit≤ tt)
+    c.list_in.ensures ∙ same_field 8 24 c.args.bytes.now c.header_of-header.result header (lit≤ tt)

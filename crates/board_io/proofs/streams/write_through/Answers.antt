@@ -8,5 +8,5 @@ pub returns-in-Err : goal.returns-in-Err
 returns-in-Err g c =
     let contents = g.W.Write.contents in
     let bytes = c.args.bytes.now in
-    let all = Appends-kept (contents c.args.writer.now) (contents c.write_on.new.writer) (contents c.flush.new.self) bytes c.in-Put.ensures c.in-Err.ensures.bytes in
+    let all = Appends-kept (contents c.args.writer.now) (contents c.write_on.new.writer) (contents c.flush.new.self) bytes c.in-Put.ensures.held c.in-Err.ensures.bytes in
     (length bytes, subst (λ (front : List ℕ). Appends (contents c.args.writer.now) (contents c.flush.new.self) front) (sym (take_all (length bytes) bytes (omega arith))) all)

@@ -9,7 +9,7 @@ invariant-reading g l = record {
   length_is : l.length ≡ length l.text;
   within : l.length ≤ text_limit;
   taken : Consumes (g.R.Source.left l.fn.source) (g.R.Source.left l.source) l.text;
-  faults : g.R.Source.faults l.fn.source ≤ g.R.Source.faults l.source;
+  faults : g.R.Source.faults l.source ≡ g.R.Source.faults l.fn.source;
   widest : g.R.Source.widest l.source ≤ max (g.R.Source.widest l.fn.source) transfer_limit;
   piece : length l.piece ≡ transfer_limit;
 }

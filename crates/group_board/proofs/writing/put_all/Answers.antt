@@ -11,7 +11,7 @@ pieces-preserved g c =
       within = omega arith;
       held = Appends-more (held c.args.sink.now) (held c.pieces.sink) (held c.put.new.self) c.args.bytes.now c.pieces.at c.min-count.result c.pieces.invariant.held
           (rw count at c.in-Put.ensures.held);
-      faults = omega (arith, c.put.ensures.never_falls, c.pieces.invariant.faults);
+      faults = grind (arith, c.in-Put.ensures.failures_alone, c.pieces.invariant.faults);
       widest =
           let piece = length-take (c.pieces.at + c.min-count.result - c.pieces.at) (drop c.pieces.at c.args.bytes.now) in
           omega (arith, c.put.ensures.widest, c.pieces.invariant.widest, c.min-count.ensures, piece);

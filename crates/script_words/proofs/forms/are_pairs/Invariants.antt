@@ -1,5 +1,5 @@
 use Rattle.std.proofs.Common.{◌≡◌, length}
-use Rattle.script_words.specs.Shape.{are_pairs}
+use Rattle.script_words.specs.Parts.{are_pairs}
 use Rattle.script_words.proofs.forms.are_pairs.Given as goal
 
 abbrev pub invariant-pairs : goal.invariant-pairs

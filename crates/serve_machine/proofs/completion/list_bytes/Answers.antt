@@ -2,6 +2,6 @@ use Rattle.std.proofs.Common.{rules}
 use Rattle.byte_fields.specs.Places.{bytes_of}
 use Rattle.serve_machine.proofs.completion.list_bytes.Goals as goal
 
-pub returns-clause-bytes : goal.returns-clause-bytes
+pub returns : goal.returns
 unfolding bytes_of
-returns-clause-bytes c = search rules
+returns c = search rules

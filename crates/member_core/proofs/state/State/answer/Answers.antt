@@ -1,4 +1,5 @@
 use Rattle.std.proofs.Common.{sym, ◌∙◌, subst}
+use Rattle.std.specs.Prelude.{is_some, unwrap_or}
 use Rattle.group_calls.specs.Facts.{facts}
 use Rattle.member_core.specs.Vectors.{HasSmallVector}
 use Rattle.member_core.proofs.Telling.{told_by, told_by_are_told, told_by_small, facts_are_told, small_answer, answer_of}
@@ -8,7 +9,7 @@ use Rattle.member_core.proofs.state.State.answer.Goals as goal
 pub note-requires-clause-vector : goal.note-requires-clause-vector
 note-requires-clause-vector c =
     let s = c.args.self.now in
-    subst HasSmallVector (sym (c.in_ok-answer.ensures.told (told_by s) (told_by_are_told s))) (small_answer s.device.made s.killed (told_by s) s.device.memory s.device.disk c.args.call.now (told_by_small s c.requires.vectors))
+    subst HasSmallVector (sym (c.in_ok-answer.ensures.told (told_by s) (told_by_are_told s))) (small_answer s.device.made (is_some s.killed) (unwrap_or s.killed 0) (told_by s) s.device.memory s.device.disk c.args.call.now (told_by_small s c.requires.vectors))
 
 pub returns-clause-told : goal.returns-clause-told
 returns-clause-told c = λ made h at stands.

@@ -29,7 +29,10 @@ returns-in-Net-clause-plan c = λ f frames.
     (c.plan_receive.ensures.plan f c.args.queue c.in-Net.mac kind)
 
 pub returns-in-Net-clause-ready : goal.returns-in-Net-clause-ready
-returns-in-Net-clause-ready c = λ position place. c.plan_receive.ensures.ready c.args.queue position place
+returns-in-Net-clause-ready c = λ position place. c.plan_receive.ensures.ready c.args.queue position c.if-queue-eq0.true place
+
+pub returns-in-Net-2-clause-ready : goal.returns-in-Net-2-clause-ready
+returns-in-Net-2-clause-ready c = λ position place. c.plan_transmit.ensures.ready c.args.queue position c.if-queue-eq0.false place
 
 pub returns-in-Net-2-clause-plan : goal.returns-in-Net-2-clause-plan
 returns-in-Net-2-clause-plan c = λ f frames.

@@ -1,6 +1,6 @@
-use Rattle.std.proofs.Common.{◌<◌, length, sym, ◌∙◌, subst, arith}
+use Rattle.std.proofs.Common.{◌<◌, length, sym, subst, arith}
 use Rattle.member_device.specs.Device.{Holdings}
-use Rattle.member_device.proofs.Stages.{receive_is_served, receive_is_dropped, disk_by_net}
+use Rattle.member_device.proofs.Stages.{receive_is_served, receive_is_dropped}
 use Rattle.member_device.proofs.device.Device.plan_receive.Goals as goal
 
 pub returns-then-writable-front_length_with_header-clause-plan : goal.returns-then-writable-front_length_with_header-clause-plan
@@ -15,5 +15,4 @@ returns-clause-plan c =
     let some : 0 < length c.self.inside.backlog = subst (λ (d : Holdings). 0 < length d.waiting) (sym c.self.view_is) c.requires.waits in
     rw (← c.self.view_is) (λ f q mac kind.
     let v = c.self.inside in
-    disk_by_net f q v.memory v.disk _ v.made.kind mac kind
-    ∙ receive_is_served v.memory v.disk f q c.args.place.layout c.args.place.chain.parts v.backlog c.in_ok-reply.reply c.new-2.result c.writable.result some c.in_ok-reply.ensures c.writable.ensures.value (omega (arith, c.front_length_with_header.ensures)) c.new-2.ensures)
+    receive_is_served v.memory v.disk f q c.args.place.layout c.args.place.chain.parts v.backlog c.in_ok-reply.reply c.writable.result some c.in_ok-reply.ensures c.writable.ensures.value (omega (arith, c.front_length_with_header.ensures)))

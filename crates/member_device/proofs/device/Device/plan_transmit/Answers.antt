@@ -1,9 +1,7 @@
-use Rattle.std.proofs.Common.{◌∙◌}
-use Rattle.member_device.proofs.Stages.{transmit_is_served, disk_by_net}
+use Rattle.member_device.proofs.Stages.{transmit_is_served}
 use Rattle.member_device.proofs.device.Device.plan_transmit.Goals as goal
 
 pub returns-clause-plan : goal.returns-clause-plan
 returns-clause-plan c = rw (← c.self.view_is) (λ f q mac kind.
     let v = c.self.inside in
-    disk_by_net f q v.memory v.disk _ v.made.kind mac kind
-    ∙ transmit_is_served v.memory v.disk f q c.args.place.layout c.args.place.chain.parts c.in_ok-request.request c.new-2.result c.in_ok-sent.sent c.in_ok-request.ensures.bytes c.new-2.ensures c.in_ok-sent.ensures)
+    transmit_is_served v.memory v.disk f q c.args.place.layout c.args.place.chain.parts c.in_ok-request.request c.in_ok-sent.sent c.in_ok-request.ensures.bytes c.in_ok-sent.ensures)

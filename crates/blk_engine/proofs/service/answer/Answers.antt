@@ -1,0 +1,11 @@
+use Rattle.std.proofs.Common.{◌≡◌, Option, Some, sym, ◌∙◌, ap}
+use Rattle.std.proofs.lemmas.Grind.{common_steps}
+use Rattle.blk_engine.specs.Parsed.{parsed}
+use Rattle.blk_engine.proofs.Serving.{answers}
+use Rattle.blk_engine.proofs.service.answer.Goals as goal
+
+pub returns-clause-answer : goal.returns-clause-answer
+returns-clause-answer c =
+    let is : Some c.in-Some.asked ≡ parsed c.args.request.now c.args.writable = c.in-Some.ensures ∙ ap (λ r. parsed r c.args.writable) c.as_slice.ensures in
+    answers c.args.request.now c.args.writable c.in-Some.asked is c.args.read_only c.args.disk.now c.args.member c.status-status.result c.in_ok-reply.reply
+    (rw c.capacity.ensures at c.status-status.ensures) c.in_ok-reply.ensures.bytes
