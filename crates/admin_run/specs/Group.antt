@@ -1,10 +1,10 @@
 -- The group that the input of `admin` works on: an owner for 16 members, and the members (VIRTIO 1.3, 2.12, device groups). What the members are is of this project.
 use Rattle.std.specs.Prelude.{ℕ, zero, suc, ◌++◌, ◌+◌, ◌-◌, ◌==◌, ◌%◌, false, List, [], ◌∷◌, Option, None, Some, map, slice_set, if◌then◌else◌, length}
 use Rattle.std.specs.List.{slice_get}
+use Rattle.byte_fields.specs.Sizes.{guest_limit}
 use Rattle.legacy_regs.specs.declared.device.Kind.{Kind}
 use Rattle.legacy_regs.specs.declared.device.Kind.TheVariants.{Block, Net}
 use Rattle.history.specs.Legal.{Cell}
-use Rattle.group_calls.specs.Limits.{group_limit}
 use Rattle.group_calls.specs.declared.owner.OwnerCall.{OwnerCall}
 use Rattle.group_calls.specs.declared.owner.OwnerCall.TheVariants.{SetVfs, Judge, Reset as ResetOwner}
 use Rattle.group_calls.specs.declared.owner.OwnerReply.{OwnerReply}
@@ -43,7 +43,7 @@ fresh_members zero = []
 fresh_members (suc before) = fresh_members before ++ fresh_member (before + 1) ∷ []
 
 abbrev pub first_group : Group
-first_group = record { owner = []; members = fresh_members group_limit }
+first_group = record { owner = []; members = fresh_members guest_limit }
 
 -- ---- calls. All are made by the actor 0
 

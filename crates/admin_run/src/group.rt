@@ -3,19 +3,19 @@ ghost use Rattle.std.specs.Prelude.{◌≡◌, ◌≤◌, ◌<◌, ◌++◌, ◌
 ghost use Rattle.std.specs.List.{slice_get};
 ghost use Rattle.group_calls.specs.declared.owner.OwnerCall.TheVariants.{SetVfs, Judge};
 ghost use Rattle.group_calls.specs.declared.member.MemberCall.TheVariants.{Act, Kill};
+ghost use Rattle.group_calls.specs.Limits.{writable_limit};
 ghost use Rattle.group_calls.specs.Owner.{owner_answer, owner_may};
 ghost use Rattle.admin_run.specs.Group.{first_group, fresh_member, kind_of as kind_for, called, called_at, member_of, acted, after_line, asked, floor_after_kill};
 ghost use Rattle.admin_run.specs.Completion.{completion as completion_of};
-ghost use Rattle.admin_run.specs.Answers.{done_line};
 ghost use Rattle.admin_run.specs.Kept.{reply_at, acted_on, done_for};
 ghost use Rattle.admin_script.specs.declared.line.AdminLine.TheVariants as AdminLine;
 
-use crate::completion::{push_access, push_list, push_nothing, push_plain};
 use admin_wire::LegacyCmd;
 use board_text::{Floors, Piece};
 use group_calls::{Kind, MemberCall, MemberReply, OwnerCall, OwnerReply, Serial};
 use member_core::Member;
 use owner_core::Owner;
+use serve_machine::{access_done, owner_done};
 use std::alloc::{AllocError as NoMemory, Global};
 use std::marker::Model;
 
@@ -110,30 +110,23 @@ fn act(
     Ok(Some(placed.reply))
 }
 
-// Appends the line of what a verdict is completed with; a register access is carried out at its member.
+// What a verdict is completed with; a register access is carried out at its member.
 fn carry_out(
     members: &mut Vec<Member>,
-    output: &mut Vec<u8>,
     verdict: OwnerReply,
     writable: u32,
-) -> Result<(), NoMemory>
+) -> Result<Piece, NoMemory>
+    requires { writable ≤ writable_limit }
     ensures length { length members.new.items ≡ length members.old.items }
     ensures members { OnOk result (members.new.items ≡ acted_on members.old.items verdict) }
-    ensures output { OnOk result (output.new.items ≡ output.old.items ++ done_line (done_for members.old.items writable verdict)) }
+    ensures done { IfOk result (λ done. done ≡ done_for members.old.items writable verdict) }
 {
     match verdict {
-        OwnerReply::List { bits } => push_list(output, bits, writable),
-        OwnerReply::Used => push_plain(output, 0, 0, writable),
-        OwnerReply::Refused {
-            status,
-            qualifier,
-            ..
-        } => push_plain(output, status, qualifier, writable),
         OwnerReply::Legacy { member, command } => match act(members, member, command)? {
-            Some(reply) => push_access(output, &reply, writable),
-            None => push_nothing(output),
+            Some(reply) => Ok(access_done(&reply, writable)),
+            None => Ok(Piece::new()),
         },
-        OwnerReply::Done => push_nothing(output),
+        verdict => Ok(owner_done(&verdict, writable)),
     }
 }
 
@@ -169,23 +162,18 @@ impl DeviceGroup {
         Ok(())
     }
 
-    /// Judges a command, carries it out at its member where the owner lets it through, and appends the line of its
-    /// completion. At most 256 bytes are writable.
-    pub fn serve(
-        &mut self,
-        output: &mut Vec<u8>,
-        bytes: &Piece,
-        writable: u32,
-    ) -> Result<(), NoMemory>
+    /// Judges a command, carries it out at its member where the owner lets it through, and says what it is completed
+    /// with. At most 256 bytes are writable.
+    pub fn serve(&mut self, bytes: &Piece, writable: u32) -> Result<Piece, NoMemory>
         requires { writable ≤ 256 }
         ensures group { OnOk result (self.new ≡ after_line self.old (AdminLine.Cmd writable bytes.now)) }
-        ensures output { OnOk result (output.new.items ≡ output.old.items ++ done_line (completion_of self.old writable bytes.now)) }
+        ensures done { IfOk result (λ done. done ≡ completion_of self.old writable bytes.now) }
     {
         let judge = OwnerCall::Judge {
             bytes: bytes.copy(),
             writable,
         };
         let placed = self.owner.apply(BOARD, &judge)?;
-        carry_out(&mut self.members, output, placed.reply, writable)
+        carry_out(&mut self.members, placed.reply, writable)
     }
 }

@@ -4,6 +4,7 @@ ghost use Rattle.admin_script.specs.Bounds.{IsAdminLine};
 ghost use Rattle.admin_run.specs.Group.{after_line};
 ghost use Rattle.admin_run.specs.Answers.{answer_to, admin_output};
 
+use crate::completion::push_done;
 use crate::group::DeviceGroup;
 use admin_script::{AdminLine, AdminText};
 use board_text::Bytes;
@@ -18,7 +19,10 @@ fn answer(group: &mut DeviceGroup, output: &mut Vec<u8>, line: &AdminLine) -> Re
     match line {
         AdminLine::Vfs { count } => group.set_functions(*count),
         AdminLine::Reset => group.reset(),
-        AdminLine::Cmd { writable, bytes } => group.serve(output, bytes, *writable),
+        AdminLine::Cmd { writable, bytes } => {
+            let done = group.serve(bytes, *writable)?;
+            push_done(output, &done)
+        }
     }
 }
 

@@ -3,7 +3,7 @@ ghost use Rattle.std.specs.Prelude.{◌≡◌, ◌+◌, ◌≤◌, length};
 ghost use Rattle.arrayvec.specs.ArrayVec.{array_vec_len};
 ghost use Rattle.byte_fields.specs.Places.{bytes_at};
 
-use crate::image::{Image, MOST_BYTES};
+use crate::image::Image;
 use std::marker::Model;
 
 /// Bytes of a field that were read. They lie in the value itself, and take no memory.
@@ -43,7 +43,7 @@ impl FieldBytes {
     /// The bytes, lent. There are at most 33, as many as a structure has.
     pub fn as_slice(&self) -> &[u8]
         ensures bytes { result.now ≡ self.now }
-        ensures few { length result.now ≤ MOST_BYTES }
+        ensures few { length result.now ≤ 33 }
     {
         let start = usize::from(self.offset);
         &self.image.as_slice()[start..start + self.count as usize]

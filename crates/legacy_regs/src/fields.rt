@@ -1,7 +1,7 @@
 //! The tables of fields, and which accesses are refused.
 ghost use Rattle.std.specs.Prelude.{◌≡◌, ◌+◌, ◌≤◌, nat_lt, nat_le, ◌&&◌, length, IsTrue, IsFalse};
 ghost use Rattle.std.specs.List.{list_any};
-ghost use Rattle.legacy_regs.specs.Fields.{is_in_one_field, common_fields, device_fields, fields_of, structure_size};
+ghost use Rattle.legacy_regs.specs.Fields.{is_in_one_field, fields_of, structure_size};
 ghost use Rattle.legacy_regs.specs.Accesses.{is_refused_read, is_refused_write};
 
 use crate::accesses::Space;

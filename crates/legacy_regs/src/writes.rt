@@ -1,5 +1,5 @@
 //! What a write of the common structure does beyond the registers, whether it is refused or not.
-ghost use Rattle.std.specs.Prelude.{◌≡◌, ◌+◌, ◌≤◌, length};
+ghost use Rattle.std.specs.Prelude.{◌≡◌, length};
 ghost use Rattle.legacy_regs.specs.Fields.{touches, queue_address_field};
 ghost use Rattle.legacy_regs.specs.Accesses.{is_reset_write as resets, notified_queue as notified};
 

@@ -25,11 +25,11 @@ use Rattle.io_bar.specs.declared.access.Route.{Route}
 use Rattle.io_bar.specs.declared.access.Route.TheVariants.{Command, Doorbell, Local}
 use Rattle.io_bar.specs.Route.{count_of, is_port_width, is_local, rings_doorbell, device_base, read_command, write_command, passed_on, route_of}
 use Rattle.vfio_driver.specs.declared.access.Answer.TheVariants.{Data, Written, Ones, RefusedMemory}
-use Rattle.vfio_driver.specs.declared.access.Open.{Open}
-use Rattle.vfio_driver.specs.declared.access.Open.TheVariants.{Nothing, Ringing, Posting, Taking}
+use Rattle.vfio_driver.specs.declared.access.Stage.{Stage}
+use Rattle.vfio_driver.specs.declared.access.Stage.TheVariants.{Nothing, Ringing, Posting, Taking}
 use Rattle.vfio_driver.specs.declared.access.Known.{Known}
-use Rattle.vfio_driver.specs.declared.access.Turned.{Turned}
-use Rattle.vfio_driver.specs.Access.{is_open, opened_by, opened, started_by, is_started, next_ask, ended, lost, ringing, posting, completed, taking, turned}
+use Rattle.vfio_driver.specs.declared.access.After.{After}
+use Rattle.vfio_driver.specs.Access.{is_open, stage_by, first_stage, started_by, started, next_ask, ended, lost, after_notify, after_post, after_done, after_take, after}
 use Rattle.machine_board.specs.Cells.{IsHere}
 use Rattle.machine_board.specs.Ways.{GoesHere, asks}
 use Rattle.machine_board.proofs.Owners.{either}
@@ -46,7 +46,7 @@ unanswered (Some x) e = absurd (cc)
 
 -- ---- an ask of the driver is one that the cells take
 
-pub driver_here : (guest : ℕ) (known : Known) (stage : Open) (ask : Ask) → guest ≡ 1 → GoesHere stage → Some ask ≡ next_ask guest known stage → IsHere ask
+pub driver_here : (guest : ℕ) (known : Known) (stage : Stage) (ask : Ask) → guest ≡ 1 → GoesHere stage → Some ask ≡ next_ask guest known stage → IsHere ask
 driver_here guest known Nothing ask one goes is = absurd (cc)
 driver_here guest known (Ringing number) ask one goes is = let e : ask ≡ Member guest known.floor (Notify number) = cc in subst IsHere (sym e) one
 driver_here guest known (Posting queue bytes writable reads) ask one goes is =
@@ -62,27 +62,27 @@ nowhere = (refl, lit≤ tt)
 at_queue : (queue seq : ℕ) (reads : Bool) → queue ≡ 0 → GoesHere (Taking queue seq reads)
 at_queue queue seq reads zero = (zero, lit≤ tt)
 
-abbrev pub Turns : Turned → Type 0
+abbrev pub Turns : After → Type 0
 Turns t = GoesHere t.stage × (is_open t.stage ≡ is_none t.answer)
 
-rung : (known : Known) (at : ℕ) (reply : MemberReply) → Turns (ringing known (FromMember (record { at = at; reply = reply })))
+rung : (known : Known) (at : ℕ) (reply : MemberReply) → Turns (after_notify known (FromMember (record { at = at; reply = reply })))
 rung known at (Gone floor) = (nowhere, refl)
 rung known at _ = (nowhere, refl)
 
-ringing_turns : (known : Known) (told : Told) → Turns (ringing known told)
+ringing_turns : (known : Known) (told : Told) → Turns (after_notify known told)
 ringing_turns known (FromMember placed) = rung known placed.at placed.reply
 ringing_turns known _ = (nowhere, refl)
 
-posted : (known : Known) (queue : ℕ) (reads : Bool) (at : ℕ) (reply : RingReply) → queue ≡ 0 → Turns (posting known queue reads (FromQueue (record { at = at; reply = reply })))
+posted : (known : Known) (queue : ℕ) (reads : Bool) (at : ℕ) (reply : RingReply) → queue ≡ 0 → Turns (after_post known queue reads (FromQueue (record { at = at; reply = reply })))
 posted known queue reads at (Seq seq) zero = (at_queue queue seq reads zero, refl)
 posted known queue reads at (Closed floor) zero = (nowhere, refl)
 posted known queue reads at _ zero = (nowhere, refl)
 
-posting_turns : (known : Known) (queue : ℕ) (reads : Bool) (told : Told) → queue ≡ 0 → Turns (posting known queue reads told)
+posting_turns : (known : Known) (queue : ℕ) (reads : Bool) (told : Told) → queue ≡ 0 → Turns (after_post known queue reads told)
 posting_turns known queue reads (FromQueue placed) zero = posted known queue reads placed.at placed.reply zero
 posting_turns known queue reads _ zero = (nowhere, refl)
 
-completed_turns : (known : Known) (reads : Bool) (done : DoneParts) → Turns (completed known reads done)
+completed_turns : (known : Known) (reads : Bool) (done : DoneParts) → Turns (after_done known reads done)
 completed_turns known reads done =
     let good = if reads then ended known (Data done.payload) else ended known Written in
     let refused = if done.qualifier == 2 then ended known Ones else lost known 0 in
@@ -92,16 +92,16 @@ completed_turns known reads done =
     (either Turns (done.status == 12) (ended known RefusedMemory) refused (nowhere, refl)
     (either Turns (done.qualifier == 2) (ended known Ones) (lost known 0) (nowhere, refl) (nowhere, refl)))
 
-taken : (known : Known) (queue seq : ℕ) (reads : Bool) (at : ℕ) (reply : RingReply) → queue ≡ 0 → Turns (taking known queue seq reads (FromQueue (record { at = at; reply = reply })))
+taken : (known : Known) (queue seq : ℕ) (reads : Bool) (at : ℕ) (reply : RingReply) → queue ≡ 0 → Turns (after_take known queue seq reads (FromQueue (record { at = at; reply = reply })))
 taken known queue seq reads at (Ready bytes floor) zero = completed_turns (record { floor = max known.floor floor; gone = known.gone }) reads (parts_of bytes)
 taken known queue seq reads at (Lost floor) zero = (nowhere, refl)
 taken known queue seq reads at _ zero = (at_queue queue seq reads zero, refl)
 
-taking_turns : (known : Known) (queue seq : ℕ) (reads : Bool) (told : Told) → queue ≡ 0 → Turns (taking known queue seq reads told)
+taking_turns : (known : Known) (queue seq : ℕ) (reads : Bool) (told : Told) → queue ≡ 0 → Turns (after_take known queue seq reads told)
 taking_turns known queue seq reads (FromQueue placed) zero = taken known queue seq reads placed.at placed.reply zero
 taking_turns known queue seq reads _ zero = (at_queue queue seq reads zero, refl)
 
-pub turns : (known : Known) (stage : Open) (told : Told) → is_open stage ≡ true → GoesHere stage → Turns (turned known stage told)
+pub turns : (known : Known) (stage : Stage) (told : Told) → is_open stage ≡ true → GoesHere stage → Turns (after known stage told)
 turns known Nothing told opens goes = absurd (cc)
 turns known (Ringing number) told opens goes = ringing_turns known told
 turns known (Posting queue bytes writable reads) told opens goes = posting_turns known queue reads told goes.0
@@ -131,25 +131,25 @@ passed_small msix (Write offset bytes) width = either IsSmall (rings_doorbell of
 route_small : (kind : Kind) (msix io : Bool) (access : Access) → is_port_width (count_of access) ≡ true → IsSmall (route_of kind msix io access)
 route_small kind msix io access width = either IsSmall (is_local kind io access) Local (passed_on msix access) tt (passed_small msix access width)
 
-goes_by : (guest : ℕ) (route : Route) → IsSmall route → GoesHere (opened_by guest route 0)
+goes_by : (guest : ℕ) (route : Route) → IsSmall route → GoesHere (stage_by guest route 0)
 goes_by guest Local small = nowhere
 goes_by guest (Doorbell number) small = nowhere
 goes_by guest (Command command) small = let within : 8 + result_length command ≤ writable_limit = omega arith in (refl, within)
 
-pub begins : (guest : ℕ) (known : Known) (kind : Kind) (msix io : Bool) (access : Access) → is_port_width (count_of access) ≡ true → GoesHere (opened guest known (route_of kind msix io access) 0)
+pub begins : (guest : ℕ) (known : Known) (kind : Kind) (msix io : Bool) (access : Access) → is_port_width (count_of access) ≡ true → GoesHere (first_stage guest known (route_of kind msix io access) 0)
 begins guest known kind msix io access width =
-    either GoesHere known.gone Nothing (opened_by guest (route_of kind msix io access) 0) nowhere (goes_by guest (route_of kind msix io access) (route_small kind msix io access width))
+    either GoesHere known.gone Nothing (stage_by guest (route_of kind msix io access) 0) nowhere (goes_by guest (route_of kind msix io access) (route_small kind msix io access width))
 
-opens_by : (guest : ℕ) (route : Route) (queue : ℕ) → is_open (opened_by guest route queue) ≡ asks (started_by route)
+opens_by : (guest : ℕ) (route : Route) (queue : ℕ) → is_open (stage_by guest route queue) ≡ asks (started_by route)
 opens_by guest Local queue = refl
 opens_by guest (Doorbell number) queue = refl
 opens_by guest (Command command) queue = refl
 
-opens_where : (gone : Bool) (guest : ℕ) (floor : ℕ) (route : Route) (queue : ℕ) → is_open (opened guest (record { floor = floor; gone = gone }) route queue) ≡ asks (is_started (record { floor = floor; gone = gone }) route)
+opens_where : (gone : Bool) (guest : ℕ) (floor : ℕ) (route : Route) (queue : ℕ) → is_open (first_stage guest (record { floor = floor; gone = gone }) route queue) ≡ asks (started (record { floor = floor; gone = gone }) route)
 opens_where true guest floor route queue = refl
 opens_where false guest floor route queue = opens_by guest route queue
 
-pub opens : (guest : ℕ) (known : Known) (route : Route) (queue : ℕ) → is_open (opened guest known route queue) ≡ asks (is_started known route)
+pub opens : (guest : ℕ) (known : Known) (route : Route) (queue : ℕ) → is_open (first_stage guest known route queue) ≡ asks (started known route)
 opens guest known route queue = opens_where known.gone guest known.floor route queue
 
 pub never_none : {A : Type 0} (o : Option A) (n m : ℕ) → is_some o ≡ true → o ≡ None → n ≡ m

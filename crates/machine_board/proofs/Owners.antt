@@ -4,7 +4,7 @@ use Rattle.std.specs.Prelude.{◌==◌, ◌&&◌, nat_lt, nat_le, not, unwrap_or
 use Rattle.std.proofs.lemmas.Bool.Decides.{nat_tests}
 use Rattle.history.specs.Look.{latest_or, after_latest}
 use Rattle.admin_wire.specs.Command.{command_of}
-use Rattle.admin_wire.specs.declared.numbers.TheConstants.{SR_IOV, LEGACY_NOTIFY_INFO}
+use Rattle.admin_wire.specs.Numbers.{sr_iov}
 use Rattle.admin_wire.specs.declared.command.Body.{Body}
 use Rattle.admin_wire.specs.declared.command.Body.TheVariants.{Query, Use, Legacy as ToMember, Unknown}
 use Rattle.admin_wire.specs.declared.command.LegacyCmd.{LegacyCmd}
@@ -12,7 +12,7 @@ use Rattle.group_calls.specs.declared.owner.OwnerCall.{OwnerCall}
 use Rattle.group_calls.specs.declared.owner.OwnerCall.TheVariants.{SetVfs, Judge, Gone, Reset}
 use Rattle.group_calls.specs.declared.owner.OwnerReply.{OwnerReply}
 use Rattle.group_calls.specs.declared.owner.OwnerReply.TheVariants.{Done, List as Listed, Used, Refused, Legacy}
-use Rattle.group_calls.specs.Owner.{OwnerEntry, is_reset, count_set, vf_count, is_away, is_used, refused, supported_list, invalid_field, invalid_group, invalid_member, invalid_opcode, verdict_on, verdict, owner_answer, IsLegalOwner, owner_may}
+use Rattle.group_calls.specs.Owner.{OwnerEntry, is_reset, count_set, vf_count, is_away, is_used, largest_opcode, refused, supported_list, invalid_field, invalid_group, invalid_member, invalid_opcode, verdict_on, verdict, owner_answer, IsLegalOwner, owner_may}
 
 -- both branches have it
 pub either : {A : Type 0} (P : A → Type 0) (b : Bool) (x y : A) → P x → P y → P (if b then x else y)
@@ -64,10 +64,10 @@ verdict_on_passes h m Unknown few = tt
 verdict_passes : (h : List OwnerEntry) (bytes : List ℕ) (writable : ℕ) → vf_count h ≤ 1 → Passes (verdict h bytes writable)
 verdict_passes h bytes writable few =
     let c = command_of bytes writable in
-    let known = nat_le c.opcode LEGACY_NOTIFY_INFO && is_used h c.opcode in
+    let known = nat_le c.opcode largest_opcode && is_used h c.opcode in
     let last = verdict_on h c.member c.body in
     let second = if not known then refused h c.member invalid_opcode else last in
-    either Passes (not (c.group_type == SR_IOV)) (refused h c.member invalid_group) second tt (
+    either Passes (not (c.group_type == sr_iov)) (refused h c.member invalid_group) second tt (
     either Passes (not known) (refused h c.member invalid_opcode) last tt (
     verdict_on_passes h c.member c.body few))
 

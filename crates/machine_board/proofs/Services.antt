@@ -18,6 +18,7 @@ use Rattle.serve_machine.specs.declared.stage.Fetched.{Fetched}
 use Rattle.serve_machine.specs.declared.stage.Stage.{Stage}
 use Rattle.serve_machine.specs.declared.stage.Stage.TheVariants.{Popping, Judging, Acting, Completing, Ended}
 use Rattle.serve_machine.specs.Service.{next_ask, after, after_pop, after_judge, after_act}
+use Rattle.serve_machine.specs.Floors.{AreAtFloors}
 use Rattle.serve_machine.specs.Grammar.{IsAnsweredService}
 use Rattle.serve_machine.specs.Runs.{stage_after, AreAsked, IsWholeRun}
 use Rattle.serve_machine.specs.Within.{IsWithinAsk}
@@ -45,17 +46,18 @@ longer old between now who queue stage later ask told zero runs is answers asked
 }
 
 pub whole : (old now : Cells) (who queue : ℕ) (stage : Stage) → queue ≡ 0 → Runs old now who stage → None ≡ next_ask queue stage
-    → ((xs : List Exchange) → IsWholeRun 0 xs → IsAnsweredService 0 xs) → (xs : List Exchange) × IsAnsweredService 0 xs × AreAskedInTurn old now who xs
+    → ((xs : List Exchange) → IsWholeRun 0 xs → IsAnsweredService 0 xs × AreAtFloors xs) → (xs : List Exchange) × IsAnsweredService 0 xs × AreAtFloors xs × AreAskedInTurn old now who xs
 whole old now who queue stage zero runs is law =
     let over : next_ask 0 (stage_after runs.asked) ≡ None = ap (next_ask 0) (sym runs.stage_is) ∙ sym (subst (λ k. None ≡ next_ask k stage) zero is) in
-    (runs.asked, law runs.asked (runs.answered, runs.by_machine, over), runs.in_turn)
+    let by_grammar = law runs.asked (runs.answered, runs.by_machine, over) in
+    (runs.asked, by_grammar.0, by_grammar.1, runs.in_turn)
 
 -- ---- an ask of the machine is one that the cells take
 
 here : (stage : Stage) (ask : Ask) → ActsHere stage → Some ask ≡ next_ask 0 stage → IsWithinAsk ask → IsHere ask
 here Popping ask acts is within = let e : ask ≡ Queue 0 Pop = cc in subst IsHere (sym e) refl
 here (Judging command bytes) ask acts is within = let e : ask ≡ Owner (Judge bytes command.writable) = cc in subst IsHere (sym e) (subst IsWithinAsk e within)
-here (Acting command member access) ask acts is within = let e : ask ≡ Member member command.floor (Act access) = cc in subst IsHere (sym e) acts
+here (Acting command member access) ask acts is within = let e : ask ≡ Member member command.tag.floor (Act access) = cc in subst IsHere (sym e) acts
 here (Completing seq bytes floor) ask acts is within = let e : ask ≡ Queue 0 (Complete seq bytes floor) = cc in subst IsHere (sym e) refl
 here Ended ask acts is within = absurd (cc)
 

@@ -1,17 +1,15 @@
 -- What bring-up of the group does. Of this project; the commands are those of VIRTIO 1.3, 2.12.1 (group administration commands).
-use Rattle.std.specs.Prelude.{◌≡◌, ℕ, ◌+◌, zero, suc, Bool, true, false, Option, None, Some}
+use Rattle.std.specs.Prelude.{◌≡◌, ℕ, ◌+◌, Bool, true, false, Option, None, Some}
 use Rattle.group_calls.specs.declared.ask.Ask.{Ask}
 use Rattle.group_calls.specs.declared.ask.Ask.TheVariants.{Owner}
 use Rattle.group_calls.specs.declared.ask.Told.{Told}
 use Rattle.group_calls.specs.declared.ask.Told.TheVariants.{Queue as FromQueue}
 use Rattle.group_calls.specs.declared.owner.OwnerCall.TheVariants.{SetVfs}
 use Rattle.group_calls.specs.declared.queue.RingReply.TheVariants.{Full, NotYet}
-use Rattle.vfio_driver.specs.declared.bring_turn.Brought.{Brought}
-use Rattle.vfio_driver.specs.declared.bring_turn.Brought.TheVariants.{Ready}
-use Rattle.vfio_driver.specs.declared.bring_turn.Step.TheVariants.{Query, Info}
-use Rattle.vfio_driver.specs.declared.bring_turn.Way.{Way}
-use Rattle.vfio_driver.specs.declared.bring_turn.Way.TheVariants.{Posting}
-use Rattle.vfio_driver.specs.Bring.{next_ask, turned, brought_by}
+use Rattle.vfio_driver.specs.declared.bring_stage.Brought.{Brought}
+use Rattle.vfio_driver.specs.declared.bring_stage.Brought.TheVariants.{Ready}
+use Rattle.vfio_driver.specs.declared.bring_stage.BringStage.{BringStage}
+use Rattle.vfio_driver.specs.Bring.{first_stage, next_ask, after, brought_by}
 use Rattle.machine_board.specs.declared.cells.Cells.{Cells}
 use Rattle.machine_board.specs.Cells.{IsAsked}
 use Rattle.machine_board.specs.Guest.{IsFollowed, try_limit}
@@ -22,29 +20,24 @@ is_waiting (FromQueue placed) = elim placed.reply [ Full ↦ true | NotYet ↦ t
 is_waiting _ = false
 
 -- the next ask of bring-up is one call on its cell by the board, actor 0; bring-up goes on by the answer; where it has to wait a service follows
-pub record IsOneStep (member : ℕ) (old new : Cells) (before later : Way) : Type 0 where
+pub record IsOneStep (member : ℕ) (old new : Cells) (before later : BringStage) : Type 0 where
   pub ask : Ask
   pub told : Told
   pub between : Cells
   pub next : next_ask member before ≡ Some ask
   pub asked : IsAsked old between 0 ask told
-  pub turns : later ≡ turned before told
+  pub turns : later ≡ after before told
   pub followed : IsFollowed 0 (is_waiting told) between new
 
 -- so many of them
-pub data AreStepsMade (member : ℕ) : ℕ → Cells → Cells → Way → Way → Type 0 where
-  no_step : (cells : Cells) (way : Way) → AreStepsMade member 0 cells cells way way
-  one_more_step : (steps : ℕ) (old between new : Cells) (before at later : Way)
+pub data AreStepsMade (member : ℕ) : ℕ → Cells → Cells → BringStage → BringStage → Type 0 where
+  no_step : (cells : Cells) (stage : BringStage) → AreStepsMade member 0 cells cells stage stage
+  one_more_step : (steps : ℕ) (old between new : Cells) (before at later : BringStage)
       → AreStepsMade member steps old between before at → IsOneStep member between new at later → AreStepsMade member (steps + 1) old new before later
 
--- it begins with the list commands where the member is 0, else with its notify information
-abbrev pub first_way : ℕ → Way
-first_way zero = Posting Query
-first_way (suc member) = Posting Info
-
--- such steps, and what they come to: nothing only after as many as are tried
+-- such steps from the beginning, and what they come to: nothing only after as many as are tried
 abbrev pub IsBrought : ℕ → Cells → Cells → Option Brought → Type 0
-IsBrought member old new brought = (steps : ℕ) × (way : Way) × AreStepsMade member steps old new (first_way member) way × (brought ≡ brought_by way) × (brought ≡ None → steps ≡ try_limit)
+IsBrought member old new brought = (steps : ℕ) × (stage : BringStage) × AreStepsMade member steps old new (first_stage member) stage × (brought ≡ brought_by stage) × (brought ≡ None → steps ≡ try_limit)
 
 -- the list commands went well
 abbrev pub is_ready : Option Brought → Bool

@@ -1,5 +1,5 @@
 -- What an access of the guest does, ask by ask and whole. Of this project.
-use Rattle.std.specs.Prelude.{◌≡◌, ℕ, ◌+◌, Bool, true, false, List, [], ◌∷◌, length, Option, None, Some}
+use Rattle.std.specs.Prelude.{◌≡◌, ℕ, ◌+◌, Bool, true, false, List, [], ◌∷◌, map, length, Option, None, Some}
 use Rattle.group_calls.specs.declared.ask.Ask.{Ask}
 use Rattle.group_calls.specs.declared.ask.Told.{Told}
 use Rattle.group_calls.specs.declared.ask.Told.TheVariants.{Queue as FromQueue}
@@ -8,16 +8,18 @@ use Rattle.group_calls.specs.Asks.{Exchange, AnswersAsk}
 use Rattle.io_bar.specs.declared.access.Access.{Access}
 use Rattle.io_bar.specs.declared.access.Route.{Route}
 use Rattle.io_bar.specs.Route.{route_of}
+use Rattle.serve_machine.specs.Floors.{AreAtFloors as HaveServiceFloors}
 use Rattle.serve_machine.specs.Grammar.{IsAnsweredService}
 use Rattle.vfio_driver.specs.declared.access.Answer.{Answer}
 use Rattle.vfio_driver.specs.declared.access.Answer.TheVariants.{Ones, RefusedFull}
 use Rattle.vfio_driver.specs.declared.access.Started.{Started}
 use Rattle.vfio_driver.specs.declared.access.Started.TheVariants.{Local, Asks}
-use Rattle.vfio_driver.specs.declared.access.Turned.{Turned}
+use Rattle.vfio_driver.specs.declared.access.After.{After}
 use Rattle.vfio_driver.specs.declared.driver.Driver.{Driver}
-use Rattle.vfio_driver.specs.Access.{next_ask, turned, opened, is_started}
+use Rattle.vfio_driver.specs.Access.{next_ask, after, first_stage, started}
 use Rattle.vfio_driver.specs.Grammar.{IsAnsweredAccess, BeginsAccess}
-use Rattle.vfio_driver.specs.Runs.{turned_after}
+use Rattle.vfio_driver.specs.Heard.{answered as heard, AreAtFloors}
+use Rattle.vfio_driver.specs.Runs.{after_all}
 use Rattle.machine_board.specs.declared.cells.Cells.{Cells}
 use Rattle.machine_board.specs.Cells.{IsAsked, AreAskedInTurn}
 
@@ -25,9 +27,9 @@ use Rattle.machine_board.specs.Cells.{IsAsked, AreAskedInTurn}
 abbrev pub try_limit : ℕ
 try_limit = 300
 
--- one whole service by an actor
+-- one whole service by an actor, at the machine's floors
 abbrev pub IsServed : ℕ → Cells → Cells → Type 0
-IsServed who old new = (xs : List Exchange) × IsAnsweredService 0 xs × AreAskedInTurn old new who xs
+IsServed who old new = (xs : List Exchange) × IsAnsweredService 0 xs × HaveServiceFloors xs × AreAskedInTurn old new who xs
 
 -- the command isn't completed
 abbrev pub is_not_yet : Told → Bool
@@ -52,9 +54,9 @@ pub record IsOneAsk (old new : Cells) (before later : Driver) (answer : Option A
   pub asked : IsAsked old between 1 ask told
   pub answers : AnswersAsk ask told
   pub driver : IsAsBefore before later
-  pub stage : later.stage ≡ (turned before.known before.stage told).stage
-  pub known : later.known ≡ (turned before.known before.stage told).known
-  pub answered : answer ≡ (turned before.known before.stage told).answer
+  pub stage : later.stage ≡ (after before.known before.stage told).stage
+  pub known : later.known ≡ (after before.known before.stage told).known
+  pub answered : answer ≡ (after before.known before.stage told).answer
   pub followed : IsFollowed 1 (is_not_yet told) between new
 
 -- so many asks: none; or some that gave no answer, and then one that gave this answer
@@ -77,7 +79,7 @@ way_of driver access = route_of driver.bar driver.msix driver.io access
 pub record IsBegun (access : Access) (before later : Driver) : Type 0 where
   pub driver : IsAsBefore before later
   pub known : later.known ≡ before.known
-  pub stage : later.stage ≡ opened before.guest before.known (way_of before access) 0
+  pub stage : later.stage ≡ first_stage before.guest before.known (way_of before access) 0
 
 -- asks of the guest, the latest first, each on the cells as the earlier ones left them, with a service after each whose command isn't completed
 abbrev pub AreAskedAndServed : Cells → Cells → List Exchange → Type 0
@@ -85,27 +87,28 @@ AreAskedAndServed old new [] = new ≡ old
 AreAskedAndServed old new (x ∷ past) = (from : Cells) × (to : Cells) × AreAskedAndServed old from past × IsAsked from to 1 x.0 x.1 × IsFollowed 1 (is_not_yet x.1) to new
 
 -- how far an access by this driver is after these asks
-abbrev pub access_after : Driver → Access → List Exchange → Turned
-access_after driver access xs = turned_after driver.guest driver.known 0 (way_of driver access) xs
+abbrev pub access_after : Driver → Access → List Exchange → After
+access_after driver access xs = after_all driver.guest driver.known 0 (way_of driver access) (map heard xs)
 
 -- an access that asks nothing is answered with all ones
-abbrev pub answer_by : Started → Turned → Option Answer
-answer_by Local turned = Some Ones
-answer_by Asks turned = turned.answer
+abbrev pub answer_by : Started → After → Option Answer
+answer_by Local now = Some Ones
+answer_by Asks now = now.answer
 
 -- what it is answered
 abbrev pub answer_after : Driver → Access → List Exchange → Option Answer
-answer_after driver access xs = answer_by (is_started driver.known (way_of driver access)) (access_after driver access xs)
+answer_after driver access xs = answer_by (started driver.known (way_of driver access)) (access_after driver access xs)
 
 -- the asks are the access by the grammar, or its beginning where there is no answer
 abbrev pub IsByGrammar : Driver → Access → Option Answer → List Exchange → Type 0
-IsByGrammar driver access (Some answer) xs = IsAnsweredAccess driver.guest driver.known 0 (way_of driver access) xs
-IsByGrammar driver access None xs = BeginsAccess driver.guest driver.known 0 (way_of driver access) xs
+IsByGrammar driver access (Some answer) xs = IsAnsweredAccess driver.guest driver.known.gone 0 (way_of driver access) xs
+IsByGrammar driver access None xs = BeginsAccess driver.guest driver.known.gone 0 (way_of driver access) xs
 
--- one try of an access, with the answer and what is known of the member after it; there is none only after as many asks as are tried
+-- one try of an access, at the floors that were known, with the answer and what is known of the member after it; there is none only after as many asks as are tried
 pub record IsTried (access : Access) (old new : Cells) (before later : Driver) (answer : Option Answer) : Type 0 where
   pub asked : List Exchange
   pub by_grammar : IsByGrammar before access answer asked
+  pub floors : AreAtFloors before.known.floor (map heard asked)
   pub in_turn : AreAskedAndServed old new asked
   pub answered : answer ≡ answer_after before access asked
   pub most : answer ≡ None → length asked ≡ try_limit

@@ -3,13 +3,14 @@ use Rattle.std.specs.Prelude.{◌≡◌, ℕ, ◌≤◌, Bool, true, false}
 use Rattle.group_calls.specs.Limits.{writable_limit}
 use Rattle.serve_machine.specs.declared.stage.Stage.{Stage}
 use Rattle.serve_machine.specs.declared.stage.Stage.TheVariants.{Popping, Judging, Acting, Completing, Ended}
-use Rattle.vfio_driver.specs.declared.access.Open.{Open}
-use Rattle.vfio_driver.specs.declared.access.Open.TheVariants.{Posting, Taking}
+use Rattle.vfio_driver.specs.declared.access.Stage.{Stage as AccessStage}
+use Rattle.vfio_driver.specs.declared.access.Stage.TheVariants.{Posting, Taking}
 use Rattle.vfio_driver.specs.declared.access.Started.{Started}
 use Rattle.vfio_driver.specs.declared.access.Started.TheVariants.{Local, Asks}
 use Rattle.host_machine.specs.declared.line.HostLine.{HostLine}
 use Rattle.host_machine.specs.declared.line.HostLine.TheVariants.{Frame, Flr, Disable, Reset}
-use Rattle.host_machine.specs.declared.going.Way.{Way}
+use Rattle.host_machine.specs.declared.stage.Stage.{Stage as LineStage}
+use Rattle.host_machine.specs.declared.stage.Stage.TheVariants as line
 
 -- ---- a service
 
@@ -29,16 +30,16 @@ ActsHere _ = Unit {0}
 -- ---- an access of the guest
 
 -- it goes to queue 0, within the limit of a Post
-abbrev pub queue_in : Open → ℕ
+abbrev pub queue_in : AccessStage → ℕ
 queue_in (Posting queue bytes writable reads) = queue
 queue_in (Taking queue seq reads) = queue
 queue_in _ = 0
 
-abbrev pub room_in : Open → ℕ
+abbrev pub room_in : AccessStage → ℕ
 room_in (Posting queue bytes writable reads) = writable
 room_in _ = 0
 
-abbrev pub GoesHere : Open → Type 0
+abbrev pub GoesHere : AccessStage → Type 0
 GoesHere stage = (queue_in stage ≡ 0) × (room_in stage ≤ writable_limit)
 
 abbrev pub asks : Started → Bool
@@ -54,19 +55,19 @@ IsLineHere (Flr member) = member ≡ 1
 IsLineHere (Disable member) = member ≡ 1
 IsLineHere Reset = Unit {0}
 
-abbrev pub IsWayHere : Way → Type 0
-IsWayHere (Way.Delivering member frame) = member ≡ 1
-IsWayHere (Way.Restarting member) = member ≡ 1
-IsWayHere (Way.Disabling member) = member ≡ 1
-IsWayHere _ = Unit {0}
+abbrev pub IsStageHere : LineStage → Type 0
+IsStageHere (line.Delivering member frame) = member ≡ 1
+IsStageHere (line.Restarting member) = member ≡ 1
+IsStageHere (line.Disabling member) = member ≡ 1
+IsStageHere _ = Unit {0}
 
 -- how many asks are left at most, in a group of one member and one queue
-abbrev pub line_left : Way → ℕ
-line_left (Way.Delivering member frame) = 1
-line_left (Way.Restarting member) = 1
-line_left (Way.Disabling member) = 2
-line_left (Way.Leaving member floor) = 1
-line_left Way.Killing = 3
-line_left Way.Resetting = 2
-line_left (Way.Closing queue) = 1
-line_left Way.Ended = 0
+abbrev pub line_left : LineStage → ℕ
+line_left (line.Delivering member frame) = 1
+line_left (line.Restarting member) = 1
+line_left (line.Disabling member) = 2
+line_left (line.Leaving member floor) = 1
+line_left line.Killing = 3
+line_left line.Resetting = 2
+line_left (line.Closing queue) = 1
+line_left line.Ended = 0

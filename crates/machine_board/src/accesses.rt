@@ -1,7 +1,7 @@
 //! A guest's accesses, ask by ask and whole.
 ghost use Rattle.std.specs.Prelude.{◌≡◌, true, false, is_none, IsSome};
 ghost use Rattle.io_bar.specs.Route.{count_of, is_port_width};
-ghost use Rattle.vfio_driver.specs.Access.{is_started};
+ghost use Rattle.vfio_driver.specs.Access.{started};
 ghost use Rattle.machine_board.specs.Ways.{asks};
 ghost use Rattle.machine_board.specs.Guest.{is_not_yet, IsOneAsk, IsFinished, way_of, IsBegun, IsTried, is_full, IsAccessed};
 
@@ -59,7 +59,7 @@ impl Guest {
         requires unopened { self.old.busy ≡ false }
         requires width { is_port_width (count_of access.now) ≡ true }
         ensures busy { self.new.busy ≡ asks result }
-        ensures started { result ≡ is_started self.old.driver.known (way_of self.old.driver access.now) }
+        ensures started { result ≡ started self.old.driver.known (way_of self.old.driver access.now) }
         ensures begun { IsBegun access.now self.old.driver self.new.driver }
     {
         let started = self.driver.start(again(access), QUEUE);

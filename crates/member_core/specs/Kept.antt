@@ -1,5 +1,5 @@
--- What a member keeps, as equations over its history. Of this project.
-use Rattle.std.specs.Prelude.{◌≡◌, ℕ, ◌+◌, ◌<◌, ◌≤◌, Bool, true, false, List, length, bit_or, slice_index_or, Option, Some, None, is_some, unwrap_or, if◌then◌else◌}
+-- What a member keeps, as equations over its history. The code's own.
+use Rattle.std.specs.Prelude.{◌≡◌, ℕ, ◌+◌, ◌<◌, ◌≤◌, Bool, true, false, List, length, bit_or, slice_index_or, Option, Some, is_some, unwrap_or, if◌then◌else◌}
 use Rattle.history.specs.Limits.{history_limit}
 use Rattle.history.specs.Look.{count}
 use Rattle.group_calls.specs.declared.member.MemberMade.{MemberMade}

@@ -1,7 +1,6 @@
 //! What an entry is to queues, interrupts and the end of a member.
-ghost use Rattle.std.specs.Prelude.{◌≡◌, ◌==◌, ◌&&◌, ◌||◌, ◌^◌, ◌<◌, ℕ, if◌then◌else◌};
-ghost use Rattle.legacy_regs.specs.declared.accesses.Space.TheVariants.{Common};
-ghost use Rattle.group_calls.specs.MemberEntries.{is_done, is_reset, done_write};
+ghost use Rattle.std.specs.Prelude.{◌≡◌, ◌==◌, ◌&&◌, ◌||◌, ◌<◌, ℕ};
+ghost use Rattle.group_calls.specs.MemberEntries.{is_done};
 ghost use Rattle.group_calls.specs.MemberQueues.{is_address_write, rings, receives, notifies, bit_raised, takes_irqs};
 ghost use Rattle.group_calls.specs.Member.{kills, is_memory_call};
 ghost use Rattle.member_core.specs.Queues.{tells_queues, begins};

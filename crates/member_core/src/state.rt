@@ -19,7 +19,7 @@ pub(crate) struct State {
 }
 
 impl State {
-    ghost use Rattle.std.specs.Prelude.{◌≡◌, ◌<◌, ◌≤◌, ◌^◌, ℕ, false, [], ◌∷◌, List, length, Option, None, IfOk, OnOk, OnErr, slice_index_or};
+    ghost use Rattle.std.specs.Prelude.{◌≡◌, ◌<◌, ℕ, false, [], ◌∷◌, List, length, Option, None, IfOk, OnOk, OnErr, slice_index_or};
     ghost use Rattle.history.specs.Limits.{history_limit};
     ghost use Rattle.group_calls.specs.declared.member.MemberMade.{MemberMade};
     ghost use Rattle.group_calls.specs.Facts.{Facts};

@@ -1,4 +1,4 @@
--- What a member's device holds, and what its calls leave of it. Of this project.
+-- What a member's device holds, and what its calls leave of it. The code's own.
 use Rattle.std.specs.Prelude.{◌≡◌, ℕ, ◌==◌, Bool, true, false, ◌&&◌, ◌||◌, List, [], ◌∷◌, ◌++◌, drop, if◌then◌else◌}
 use Rattle.admin_wire.specs.declared.command.LegacyCmd.{LegacyCmd}
 use Rattle.legacy_regs.specs.declared.accesses.Space.TheVariants.{Common}

@@ -1,4 +1,4 @@
--- What holds of the parts of a device. Of this project.
+-- What holds of the parts of a device. The code's own.
 use Rattle.std.specs.Prelude.{◌≡◌, false, [], length}
 use Rattle.group_calls.specs.MemberQueues.{receives}
 use Rattle.group_calls.specs.Storage.{memory_length, disk_length}

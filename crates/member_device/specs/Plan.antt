@@ -1,5 +1,5 @@
 -- A step that is planned and not yet done: which outcome it will be, and what has to hold for it to be done. The code's own.
-use Rattle.std.specs.Prelude.{◌≡◌, ℕ, ◌<◌, ◌≤◌, Bool, true, List, [], length}
+use Rattle.std.specs.Prelude.{◌≡◌, ℕ, ◌<◌, ◌≤◌, Bool, List, [], length}
 use Rattle.ring_layout.specs.Layout.{LiesIn}
 use Rattle.ring_layout.specs.Chain.{available, writable_part, total_length, scattered, used_writes, written}
 use Rattle.ring_device.specs.Buffers.{LieIn}

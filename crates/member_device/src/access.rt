@@ -1,6 +1,5 @@
 //! Register accesses (VIRTIO 1.3, 2.12.1, Legacy Interfaces, and 4.1.4.10).
-ghost use Rattle.std.specs.Prelude.{◌≡◌, ◌≤◌, length, IfOk, OnErr, Ok};
-ghost use Rattle.legacy_regs.specs.Accesses.{read_answer};
+ghost use Rattle.std.specs.Prelude.{◌≡◌, length, IfOk, OnErr, Ok};
 ghost use Rattle.group_calls.specs.Member.{act_answer};
 ghost use Rattle.group_calls.specs.declared.member.MemberReply.{MemberReply};
 ghost use Rattle.admin_wire.specs.declared.command.LegacyCmd.TheVariants.{CommonRead, CommonWrite, DevRead, DevWrite};

@@ -1,4 +1,4 @@
--- Whether a buffer may follow those before it in a chain. Of this project, over VIRTIO 1.3, 2.7.4 and 2.7.5.
+-- Whether a buffer may follow those before it in a chain. The code's own, over VIRTIO 1.3, 2.7.4 and 2.7.5.
 use Rattle.std.specs.Prelude.{ℕ, nat_lt, Bool, not, ◌&&◌, ◌||◌, List, Option, None, Some, length, if◌then◌else◌}
 use Rattle.ring_layout.specs.declared.layout.Layout.{Layout}
 use Rattle.ring_layout.specs.declared.descriptor.Descriptor.{Descriptor}

@@ -1,5 +1,5 @@
 -- What a chain keeps beside its buffers: at most 256 of them, how many bytes they have of either kind, and that no
--- buffer is longer than the largest memory. Of this project.
+-- buffer is longer than the largest memory. The code's own.
 use Rattle.std.specs.Prelude.{◌≡◌, ◌+◌, ◌*◌, ◌≤◌, length}
 use Rattle.byte_fields.specs.Sizes.{memory_limit}
 use Rattle.ring_layout.specs.Chain.{total_length, readable_part, writable_part}

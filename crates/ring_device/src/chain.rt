@@ -1,5 +1,5 @@
 //! A chain of buffers in a guest's memory (VIRTIO 1.3, 2.7.5).
-ghost use Rattle.std.specs.Prelude.{◌≡◌, ◌+◌, ◌*◌, ◌<◌, ◌≤◌, ◌^◌, [], ◌∷◌, ◌++◌, length, OnOk, OnErr};
+ghost use Rattle.std.specs.Prelude.{◌≡◌, ◌+◌, ◌<◌, ◌≤◌, ◌^◌, [], ◌∷◌, ◌++◌, length, OnOk, OnErr};
 ghost use Rattle.ring_layout.specs.Chain.{total_length, readable_part, writable_part};
 ghost use Rattle.byte_fields.specs.Sizes.{memory_limit};
 ghost use Rattle.ring_device.specs.Buffers.{Buffers};

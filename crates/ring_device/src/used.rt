@@ -1,5 +1,5 @@
 //! The used ring (VIRTIO 1.3, 2.7.8), and whether an interrupt is wanted (2.7.7).
-ghost use Rattle.std.specs.Prelude.{◌≡◌, ◌≤◌, ◌++◌, length, not};
+ghost use Rattle.std.specs.Prelude.{◌≡◌, ◌++◌, length, not};
 ghost use Rattle.byte_fields.specs.Places.{bytes_of};
 ghost use Rattle.ring_layout.specs.Layout.{LiesIn};
 ghost use Rattle.ring_layout.specs.Chain.{used_writes, written, wants_no_interrupt};

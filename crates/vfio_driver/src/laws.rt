@@ -26,7 +26,7 @@ use crate::driver::Driver;
 
 /// What `Driver` asks until an access is answered is that access by the grammar, and what it has asked before is the
 /// beginning of it, each ask under the greatest floor that was known before it, whatever the driver learns between them.
-/// The machine asks every access that the grammar has.
+/// The machine asks every access that the grammar has with these floors.
 pub fn the_machine_asks_what_the_grammar_has()
     ensures whole { (guest queue : ℕ) (known : Known) (route : Route) (heard : List Heard)
         → IsWholeRun guest known queue route heard ↔ (IsAnsweredAccess guest known.gone queue route (asks_of heard) × AreAtFloors known.floor heard) }

@@ -1,5 +1,4 @@
-use Rattle.std.proofs.Common.{◌≡◌, Option, Some, sym, ◌∙◌, ap}
-use Rattle.std.proofs.lemmas.Grind.{common_steps}
+use Rattle.std.proofs.Common.{◌≡◌, Some, ◌∙◌, ap}
 use Rattle.blk_engine.specs.Parsed.{parsed}
 use Rattle.blk_engine.proofs.Serving.{answers}
 use Rattle.blk_engine.proofs.service.answer.Goals as goal

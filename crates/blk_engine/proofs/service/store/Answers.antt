@@ -1,6 +1,5 @@
-use Rattle.std.proofs.Common.{◌≡◌, ◌-◌, List, ℕ, length, take, drop, Option, Some, ◌∙◌, ap}
+use Rattle.std.proofs.Common.{◌-◌, List, ℕ, length, take, drop}
 use Rattle.std.proofs.lemmas.List.{take_rest}
-use Rattle.blk_engine.specs.Parsed.{parsed}
 use Rattle.blk_engine.proofs.Serving.{leaves_put, leaves_same}
 use Rattle.blk_engine.proofs.service.store.Goals as goal
 

@@ -1,7 +1,7 @@
 use Rattle.std.proofs.Common.{◌≡◌, ◌≤◌, true, sym, ap, ◌∙◌, subst}
 use Rattle.group_calls.specs.Limits.{writable_limit}
 use Rattle.io_bar.specs.Route.{count_of, is_port_width, route_of}
-use Rattle.vfio_driver.specs.Access.{is_open, opened, is_started}
+use Rattle.vfio_driver.specs.Access.{is_open, first_stage, started}
 use Rattle.machine_board.specs.Ways.{queue_in, room_in, asks}
 use Rattle.machine_board.specs.Guest.{way_of}
 use Rattle.machine_board.proofs.Drivers.{begins, opens}
@@ -23,7 +23,7 @@ invariant_of-self c =
 pub returns-clause-started : goal.returns-clause-started
 returns-clause-started c =
     let d = c.args.self.now.driver in
-    c.start-started.ensures.started ∙ ap (λ access. is_started d.known (way_of d access)) c.again.ensures
+    c.start-started.ensures.started ∙ ap (λ access. started d.known (way_of d access)) c.again.ensures
 
 pub returns-clause-begun : goal.returns-clause-begun
 returns-clause-begun c =
@@ -32,5 +32,5 @@ returns-clause-begun c =
     record {
       driver = (start.guest, start.bar, start.io, start.msix);
       known = start.known;
-      stage = start.stage ∙ ap (λ access. opened d.guest d.known (way_of d access) 0) c.again.ensures;
+      stage = start.stage ∙ ap (λ access. first_stage d.guest d.known (way_of d access) 0) c.again.ensures;
     }

@@ -1,4 +1,4 @@
-use Rattle.std.proofs.Common.{◌≡◌, Bool, true, false, Some, refl, sym, ◌∙◌, subst}
+use Rattle.std.proofs.Common.{◌≡◌, Bool, true, false, refl, sym, ◌∙◌, subst}
 use Rattle.std.specs.Prelude.{◌&&◌, not, is_some, unwrap_or, IfOk, if◌then◌else◌}
 use Rattle.group_calls.specs.declared.member.MemberReply.TheVariants.{Gone}
 use Rattle.group_calls.specs.Member.{is_memory_call}

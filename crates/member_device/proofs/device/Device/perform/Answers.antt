@@ -1,6 +1,5 @@
 use Rattle.std.proofs.Common.{◌≡◌, ℕ, ◌<◌, List, [], length, ap, ◌∙◌}
 use Rattle.group_calls.specs.declared.member.MemberReply.TheVariants.{Served}
-use Rattle.group_calls.specs.Facts.{Facts}
 use Rattle.group_calls.specs.Steps.{service, outcome_reply}
 use Rattle.member_device.specs.Device.{Holdings, left_by_step}
 use Rattle.member_device.specs.Plan.{facts_of, IsPlace, IsUsable}

@@ -1,7 +1,0 @@
-use Rattle.std.proofs.Common.{rules}
-use Rattle.byte_fields.specs.Places.{bytes_of}
-use Rattle.admin_run.proofs.completion.fixed_part.Goals as goal
-
-pub returns : goal.returns
-unfolding bytes_of
-returns c = search rules
