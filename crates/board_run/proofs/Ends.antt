@@ -1,8 +1,7 @@
 -- The beginning and the end of a run: bring-up, settling and the drain.
-use Rattle.std.proofs.Common.{◌≡◌, ◌≢◌, ℕ, zero, suc, ◌+◌, ◌-◌, ◌<◌, ◌≤◌, false, true, List, [], ◌∷◌, length, map, Some, refl, sym, ap, ◌∙◌, subst, arith, length-set}
+use Rattle.std.proofs.Common.{◌≡◌, ◌≢◌, ℕ, ◌+◌, ◌-◌, ◌<◌, ◌≤◌, false, true, List, [], length, map, Some, refl, sym, ap, ◌∙◌, subst, arith, length-set}
 use Rattle.std.specs.Prelude.{slice_set}
 use Rattle.std.specs.List.{slice_get}
-use Rattle.std.proofs.lemmas.Option.{slice_get_within}
 use Rattle.board_script.specs.Script.{Whole}
 use Rattle.board_script.specs.Bounds.{IsScript}
 use Rattle.journal.specs.Lines.{first_lines, lines_of, numbers}
@@ -10,7 +9,7 @@ use Rattle.journal.specs.Performing.{Performed}
 use Rattle.journal.specs.Journals.{Journal, IsGuestOf}
 use Rattle.journal.specs.Worlds.{first}
 use Rattle.journal.specs.Texts.{answer_lines}
-use Rattle.journal.specs.Settling.{Test, enough, has_work, has_lines, while_it, each_while, actors, guests, brought_up, drained}
+use Rattle.journal.specs.Settling.{Test, enough, has_work, has_lines, each_while, actors, guests, brought_up, drained}
 use Rattle.world_laws.proofs.Pasts.{IsTurned}
 use Rattle.world_laws.proofs.Phases.{while_turned}
 use Rattle.group_cells.specs.Plain.{Plain}
