@@ -1,5 +1,5 @@
 -- New cells hold the journal in which nothing happened yet.
-use Rattle.std.proofs.Common.{◌≡◌, ℕ, zero, suc, ◌+◌, ◌-◌, List, [], ◌∷◌, length, Some, refl, sym, ap, ◌∙◌, subst, arith}
+use Rattle.std.proofs.Common.{◌≡◌, ℕ, zero, suc, ◌+◌, ◌-◌, List, [], ◌∷◌, length, Some, refl, sym, ap, ◌∙◌, arith}
 use Rattle.std.specs.Prelude.{replicate}
 use Rattle.std.specs.List.{slice_get}
 use Rattle.history.specs.Legal.{Cell}
@@ -10,7 +10,7 @@ use Rattle.group_calls.specs.declared.member.MemberCall.{MemberCall}
 use Rattle.group_calls.specs.declared.member.MemberReply.{MemberReply}
 use Rattle.board_script.specs.declared.script.Setup.{Setup}
 use Rattle.board_script.specs.Script.{Whole}
-use Rattle.journal.specs.Lines.{made_by, made_of}
+use Rattle.journal.specs.Lines.{made_by}
 use Rattle.journal.specs.Worlds.{first}
 use Rattle.group_cells.specs.Plain.{new_cell, members_from, new_cells}
 use Rattle.board_run.specs.Standing.{HoldsJournal}
@@ -50,9 +50,10 @@ new_hold s = record {
   member = λ k cell at.
       let is = one_guest 1 s.guests k cell at in
       let n : 1 + k ≡ k + 1 = omega arith in
-      let i : k ≡ k + 1 - 1 = omega arith in
-      (ap (λ (c : Cell MemberMade MemberCall MemberReply). c.made) (sym is) ∙ (ap (λ (m : ℕ). made_by m (slice_get s.guests k)) n ∙ ap (λ (m : ℕ). made_by (k + 1) (slice_get s.guests m)) i),
-      ap (λ (c : Cell MemberMade MemberCall MemberReply). c.history) (sym is));
+      let i : k ≡ k + 1 - 1 = omega arith in (
+        ap (λ (c : Cell MemberMade MemberCall MemberReply). c.made) (sym is) ∙ (ap (λ (m : ℕ). made_by m (slice_get s.guests k)) n ∙ ap (λ (m : ℕ). made_by (k + 1) (slice_get s.guests m)) i),
+        ap (λ (c : Cell MemberMade MemberCall MemberReply). c.history) (sym is),
+      );
   no_queue = λ k far. refl;
   no_member = λ m far. refl;
   none = refl;

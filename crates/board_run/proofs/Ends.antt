@@ -1,15 +1,15 @@
 -- The beginning and the end of a run: bring-up, settling and the drain.
-use Rattle.std.proofs.Common.{◌≡◌, ◌≢◌, ℕ, zero, suc, ◌+◌, ◌-◌, ◌<◌, ◌≤◌, false, true, List, [], ◌∷◌, length, map, Some, refl, sym, ap, ◌∙◌, subst, arith, length-set}
+use Rattle.std.proofs.Common.{◌≡◌, ◌≢◌, ℕ, ◌+◌, ◌-◌, ◌<◌, ◌≤◌, false, true, List, [], length, map, Some, refl, sym, ap, ◌∙◌, subst, arith, length-set}
 use Rattle.std.specs.Prelude.{slice_set}
 use Rattle.std.specs.List.{slice_get}
-use Rattle.std.proofs.lemmas.Option.{slice_get_within}
 use Rattle.board_script.specs.Script.{Whole}
 use Rattle.board_script.specs.Bounds.{IsScript}
 use Rattle.journal.specs.Lines.{first_lines, lines_of, numbers}
 use Rattle.journal.specs.Performing.{Performed}
-use Rattle.journal.specs.Journals.{Journal}
+use Rattle.journal.specs.Journals.{Journal, IsGuestOf}
 use Rattle.journal.specs.Worlds.{first}
-use Rattle.journal.specs.Settling.{Test, enough, has_work, has_lines, while_it, each_while, actors, guests, brought_up, drained}
+use Rattle.journal.specs.Texts.{answer_lines}
+use Rattle.journal.specs.Settling.{Test, enough, has_work, has_lines, each_while, actors, guests, brought_up, drained}
 use Rattle.world_laws.proofs.Pasts.{IsTurned}
 use Rattle.world_laws.proofs.Phases.{while_turned}
 use Rattle.group_cells.specs.Plain.{Plain}
@@ -19,6 +19,8 @@ use Rattle.actor_core.specs.declared.lists.Trace.{Trace}
 use Rattle.actor_core.specs.declared.performer.Performer.{Performer}
 use Rattle.actor_core.specs.Boards.{lines_now, lines_due}
 use Rattle.actor_core.specs.Kept.{trace_of, left_pair}
+use Rattle.actor_core.specs.Shown.{answers_text}
+use Rattle.actor_core.specs.Answered.{ended_of}
 use Rattle.actor_core.specs.Actors.{StandsWhole}
 use Rattle.board_run.specs.declared.phases.Rest.TheVariants.{Lines}
 use Rattle.board_run.specs.Places.{actor_count, who_at}
@@ -84,6 +86,7 @@ module _ (s : Whole) (script : IsScript s) (p q : Plain) (all : List Actor) (a b
 pub record IsKept (s : Whole) (j : Journal) (place : ℕ) (a : Actor) : Type 0 where
   pub number : a.performer.who ≡ who_at s place
   pub trace : a.kept.trace.items.items ≡ trace_of (j.past (who_at s place))
+  pub answers : IsGuestOf s place → answers_text a.kept.answers.items.items ≡ answer_lines s place (ended_of s place (j.past place))
 
 kept_by : (s : Whole) → IsScript s → (j k : Journal) (place : ℕ) (a : Actor) → 1 ≤ place → IsTurned 0 j k → StandsWhole s (who_at s place) (j.past (who_at s place)) a → IsKept s k place a
 kept_by s script j k place a low turned stands =
@@ -92,6 +95,12 @@ kept_by s script j k place a low turned stands =
     record {
       number = stands.performer.who_is;
       trace = stands.trace ∙ ap trace_of (sym same);
+      answers = λ guest.
+          let high : place ≤ length s.guests = guest.1 in
+          let few : length s.guests ≤ 16 = script.few_guests in
+          let at : who_at s place ≡ place = at_guest s place high in
+          let here : StandsWhole s place (k.past place) a = subst (λ (n : ℕ). StandsWhole s n (k.past n) a) at (subst (λ (past : List Performed). StandsWhole s (who_at s place) past a) (sym same) stands) in
+          here.answers (low, omega (arith, high, few));
     }
 
 -- the board performs all of its lines now
@@ -111,6 +120,7 @@ module _ (s : Whole) (script : IsScript s) (j : Journal) (p q : Plain) (all : Li
       let board : IsKept s (drained s j) 0 d = record {
         number = ap (λ (x : Performer). x.who) performer ∙ (end.performer.who_is ∙ sym (board_at s));
         trace = ap (λ (x : Trace). x.items.items) trace ∙ (end.trace ∙ ap (λ (n : ℕ). trace_of ((drained s j).past n)) (sym (board_at s)));
+        answers = λ guest. let low : 1 ≤ 0 = guest.0 in absurd (omega (arith, low));
       } in
       let each : (i : ℕ) (x : Actor) → slice_get (slice_set all 0 d) i ≡ Some x → IsKept s (drained s j) i x =
       set_each (IsKept s (drained s j)) all 0 d board (λ i x other there. kept_by s script j (drained s j) i x (omega (arith, other)) turned (run.all.each i x there)) in
@@ -119,5 +129,6 @@ module _ (s : Whole) (script : IsScript s) (j : Journal) (p q : Plain) (all : Li
         count = length-set all 0 d ∙ run.all.count;
         number = λ i x there. (each i x there).number;
         trace = λ i x there. (each i x there).trace;
+        answers = λ g x guest there. (each g x there).answers guest;
         left_of = ap (map left_pair) left_is ∙ end.left refl;
       }

@@ -1,5 +1,5 @@
 -- What the turns of one actor leave of all.
-use Rattle.std.proofs.Common.{◌≡◌, ◌≢◌, ℕ, zero, suc, ◌<◌, ◌≤◌, Bool, true, false, List, [], ◌∷◌, length, get_or, Some, refl, sym, ap, ◌∙◌, subst, arith, length-set}
+use Rattle.std.proofs.Common.{◌≡◌, ◌≢◌, ℕ, ◌<◌, ◌≤◌, true, List, length, get_or, Some, refl, sym, ap, ◌∙◌, subst, arith, length-set}
 use Rattle.std.specs.Prelude.{slice_set}
 use Rattle.std.specs.List.{slice_get}
 use Rattle.std.proofs.lemmas.Option.{slice_get_within, slice_get_read}
@@ -8,9 +8,9 @@ use Rattle.board_script.specs.Bounds.{IsScript}
 use Rattle.journal.specs.Lines.{lines_of}
 use Rattle.journal.specs.Performing.{Performed}
 use Rattle.journal.specs.Journals.{Journal}
-use Rattle.journal.specs.Worlds.{turn, run}
+use Rattle.journal.specs.Worlds.{run}
 use Rattle.journal.specs.Settling.{Test, has_work, while_it, enough}
-use Rattle.world_laws.proofs.Pasts.{IsTurned, turn_turned}
+use Rattle.world_laws.proofs.Pasts.{IsTurned}
 use Rattle.world_laws.proofs.Phases.{while_turned}
 use Rattle.actor_core.specs.declared.actor.Actor.{Actor}
 use Rattle.actor_core.specs.declared.lines.Lines.{Lines as LinesOf}
@@ -20,7 +20,7 @@ use Rattle.actor_core.specs.Actors.{StandsWhole}
 use Rattle.group_cells.specs.Plain.{Plain}
 use Rattle.board_run.specs.declared.phases.Rest.{Rest}
 use Rattle.board_run.specs.declared.phases.Rest.TheVariants.{Service, Command, Lines}
-use Rattle.board_run.specs.Places.{actor_count, who_at}
+use Rattle.board_run.specs.Places.{who_at}
 use Rattle.board_run.specs.Running.{IsRunning, IsOneOf, AllStand, AreRunning}
 use Rattle.board_run.specs.Finishing.{test_due, test_of, HasFinished}
 use Rattle.board_run.proofs.While.{while_same}
@@ -35,10 +35,10 @@ module _ (s : Whole) (script : IsScript s) where
     count = length-set actors place a ∙ all.count;
     each = set_each (λ n x. StandsWhole s (who_at s n) (k.past (who_at s n)) x) actors place a here
         (λ n x other at.
-            let count = all.count in
-            let inside : n < length actors = slice_get_within actors n x at in
-            let differ : who_at s n ≢ who_at s place = λ same. other (apart_at s script n place (omega (arith, inside, count)) (omega (arith, within, count)) same) in
-            subst (λ (past : List Performed). StandsWhole s (who_at s n) past x) (sym (turned.others (who_at s n) differ)) (all.each n x at));
+        let count = all.count in
+        let inside : n < length actors = slice_get_within actors n x at in
+        let differ : who_at s n ≢ who_at s place = λ same. other (apart_at s script n place (omega (arith, inside, count)) (omega (arith, within, count)) same) in
+        subst (λ (past : List Performed). StandsWhole s (who_at s n) past x) (sym (turned.others (who_at s n) differ)) (all.each n x at));
   }
 
 -- the actor that was read at a place

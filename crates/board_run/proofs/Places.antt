@@ -1,15 +1,14 @@
 -- Each actor of a script stands at one place, in the order of the definition.
-use Rattle.std.proofs.Common.{◌≡◌, ◌≢◌, ℕ, zero, suc, ◌+◌, ◌-◌, ◌<◌, ◌≤◌, ◌⊎◌, inl, inr, List, [], ◌∷◌, ◌++◌, length, map, refl, sym, ap, ◌∙◌, subst, arith, append_assoc}
-use Rattle.std.specs.Prelude.{nat_le}
+use Rattle.std.proofs.Common.{◌≡◌, ℕ, zero, suc, ◌+◌, ◌-◌, ◌<◌, ◌≤◌, inl, inr, List, [], ◌∷◌, ◌++◌, length, map, refl, sym, ap, ◌∙◌, arith, append_assoc}
 use Rattle.std.proofs.lemmas.Bool.{cases_lt}
 use Rattle.std.proofs.lemmas.Bool.Decides.{nat_tests}
 use Rattle.std.proofs.lemmas.List.{map-append}
 use Rattle.board_script.specs.Limits.{first_worker, the_host}
 use Rattle.board_script.specs.Script.{Whole}
-use Rattle.board_script.specs.Bounds.{IsScript, IsGuest, IsWorker, IsActor}
-use Rattle.journal.specs.Lines.{members_of, numbers}
+use Rattle.board_script.specs.Bounds.{IsScript, IsWorker, IsActor}
+use Rattle.journal.specs.Lines.{numbers}
 use Rattle.journal.specs.Settling.{guests, actors}
-use Rattle.board_run.specs.Places.{actor_count, worker_at, who_at, IsPlaceOf}
+use Rattle.board_run.specs.Places.{actor_count, who_at, IsPlaceOf}
 
 -- ---- where an actor stands
 
@@ -34,9 +33,9 @@ module _ (s : Whole) where
   stood place = elim (cases_lt (length s.guests) place) [
     | inr low ↦ is_guest low (at_guest s place low)
     | inl above ↦ elim (cases_lt (length s.guests + s.board.workers) place) [
-        | inr low ↦ is_worker above low (at_worker s place above low)
-        | inl beyond ↦ is_host beyond (at_host s place beyond)
-      ]
+      | inr low ↦ is_worker above low (at_worker s place above low)
+      | inl beyond ↦ is_host beyond (at_host s place beyond)
+    ]
   ]
 
 module _ (s : Whole) (script : IsScript s) where
@@ -89,7 +88,7 @@ shifted f from to zero same = refl
 shifted f from to (suc count) same =
     let here : f from ≡ to = let a : from + 0 ≡ from = omega arith in let b : to + 0 ≡ to = omega arith in ap f (sym a) ∙ (same 0 (omega arith) ∙ b) in
     let rest = shifted f (from + 1) (to + 1) count
-        (λ i less. let a : from + 1 + i ≡ from + (i + 1) = omega arith in let b : to + (i + 1) ≡ to + 1 + i = omega arith in ap f a ∙ (same (i + 1) (omega (arith, less)) ∙ b)) in
+    (λ i less. let a : from + 1 + i ≡ from + (i + 1) = omega arith in let b : to + (i + 1) ≡ to + 1 + i = omega arith in ap f a ∙ (same (i + 1) (omega (arith, less)) ∙ b)) in
     ap (λ (n : ℕ). n ∷ map f (numbers (from + 1) count)) here ∙ ap (λ (l : List ℕ). to ∷ l) rest
 
 module _ (s : Whole) where

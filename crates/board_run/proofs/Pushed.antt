@@ -1,5 +1,5 @@
 -- What is so of each of a list, and of one more.
-use Rattle.std.proofs.Common.{◌≡◌, ℕ, zero, suc, ◌+◌, List, [], ◌∷◌, ◌++◌, length, Some, refl, sym, ap, ◌∙◌, subst, arith}
+use Rattle.std.proofs.Common.{◌≡◌, ℕ, zero, suc, List, [], ◌∷◌, ◌++◌, length, Some, subst}
 use Rattle.std.specs.List.{slice_get}
 
 pub push_each : {A : Type 0} (Q : ℕ → A → Type 0) (xs : List A) (x : A) → ((i : ℕ) (a : A) → slice_get xs i ≡ Some a → Q i a) → Q (length xs) x → (i : ℕ) (a : A) → slice_get (xs ++ x ∷ []) i ≡ Some a → Q i a

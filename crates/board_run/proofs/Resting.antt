@@ -1,12 +1,11 @@
 -- What an actor has to do, and so may do in its turn.
-use Rattle.std.proofs.Common.{◌≡◌, ℕ, ◌≤◌, ◌⊎◌, inl, inr, Bool, true, List, sym, ap, ◌∙◌, subst}
+use Rattle.std.proofs.Common.{◌≡◌, ℕ, inl, inr, Bool, true, List, sym, ap, ◌∙◌, subst}
 use Rattle.board_script.specs.Script.{Whole}
 use Rattle.journal.specs.Performing.{Performed}
 use Rattle.journal.specs.Journals.{Journal}
 use Rattle.actor_core.specs.declared.actor.Actor.{Actor}
 use Rattle.actor_core.specs.Boards.{lines_due}
 use Rattle.board_run.specs.declared.phases.Rest.{Rest}
-use Rattle.board_run.specs.declared.phases.Rest.TheVariants.{Service, Command, Lines}
 use Rattle.board_run.specs.Running.{MayTurn}
 use Rattle.board_run.specs.Finishing.{test_due, MayRest}
 

@@ -1,10 +1,10 @@
-use Rattle.std.proofs.Common.{◌≡◌, ◌⊎◌, inl, inr, ℕ, zero, ◌+◌, ◌≤◌, List, [], ◌∷◌, ◌++◌, length, Some, refl, sym, ap, ◌∙◌, subst, arith, length-append}
+use Rattle.std.proofs.Common.{◌≡◌, inr, ℕ, ◌+◌, List, [], ◌∷◌, length, Some, refl, sym, ap, ◌∙◌, subst, arith, length-append}
 use Rattle.std.specs.List.{slice_get}
 use Rattle.journal.specs.Lines.{first_lines}
 use Rattle.actor_core.specs.declared.actor.Actor.{Actor}
 use Rattle.actor_core.specs.Boards.{lines_now}
 use Rattle.actor_core.specs.Actors.{StandsWhole}
-use Rattle.board_run.specs.Places.{who_at, actor_count}
+use Rattle.board_run.specs.Places.{who_at}
 use Rattle.board_run.proofs.Pushed.{push_each}
 use Rattle.board_run.proofs.Ends.{board_at}
 use Rattle.board_run.proofs.making.new_actors.Goals as goal

@@ -1,4 +1,4 @@
-use Rattle.std.proofs.Common.{inl, inr, true, ◌⊎◌, ◌≡◌, ℕ, ◌+◌, ◌-◌, ◌≤◌, List, length, map, sym, ap, ◌∙◌, subst, arith, length-set}
+use Rattle.std.proofs.Common.{inl, true, ◌≡◌, ℕ, ◌-◌, List, map, sym, ap, ◌∙◌, subst, arith, length-set}
 use Rattle.std.specs.Prelude.{slice_set}
 use Rattle.journal.specs.Lines.{numbers}
 use Rattle.journal.specs.Journals.{Journal}

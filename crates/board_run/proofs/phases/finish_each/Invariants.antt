@@ -1,4 +1,4 @@
-use Rattle.std.proofs.Common.{◌≡◌, ℕ, ◌-◌, ◌≤◌, length, map}
+use Rattle.std.proofs.Common.{◌≡◌, ◌-◌, ◌≤◌, length, map}
 use Rattle.journal.specs.Lines.{numbers}
 use Rattle.journal.specs.Journals.{Journal}
 use Rattle.journal.specs.Settling.{each_while}

@@ -1,9 +1,8 @@
-use Rattle.std.proofs.Common.{inl, inr, true, ◌⊎◌, ◌≡◌, ℕ, ◌+◌, ◌<◌, ◌≤◌, List, length, sym, ap, ◌∙◌, subst, arith}
+use Rattle.std.proofs.Common.{◌≡◌, ℕ, ◌≤◌, List, length, sym, ap, ◌∙◌, subst, arith}
 use Rattle.std.specs.Prelude.{replicate, slice_set}
 use Rattle.journal.specs.Journals.{Journal}
-use Rattle.journal.specs.Worlds.{run, schedule}
+use Rattle.journal.specs.Worlds.{run}
 use Rattle.actor_core.specs.declared.actor.Actor.{Actor}
-use Rattle.board_run.specs.Places.{who_at}
 use Rattle.board_run.specs.Running.{AreRunning}
 use Rattle.board_run.proofs.Orders.{turns_before, pair_more, pairs_all, often_turned}
 use Rattle.board_run.proofs.Others.{read_at, one_at, other_at, often_all}
@@ -45,16 +44,16 @@ pairs-preserved c =
     let new : Actor = c.turn_often.new.actor in
     let turns = c.turns-turns.result in
     λ j all.
-          let k : Journal = run s (turns_before s c.pairs.index) j in
-          let now = c.pairs.invariant j all in
-          let one = one_at s k actors place old now.all at in
-          let some = other_at s script k actors place old low now.all at in
-          let who : old.performer.who ≡ turns.who = (now.all.each place old at).performer.who_is ∙ c.place_of-place.ensures.is in
-          let times : List ℕ = replicate turns.count old.performer.who in
-          let after = c.in_ok-turn_often.ensures k now.run one in
-          let there = often_all s script k c.pairs.cells c.turn_often.new.cells actors place old new low now at times (often_turned s old.performer.who turns.count k some) after.0 after.1 in
-          subst (λ (x : Journal). AreRunning s x c.turn_often.new.cells (slice_set actors place new))
-          (ap (λ (n : ℕ). run s (replicate turns.count n) k) who ∙ sym (pair_more s c.pairs.index turns j c.turns-turns.ensures.value)) there
+    let k : Journal = run s (turns_before s c.pairs.index) j in
+    let now = c.pairs.invariant j all in
+    let one = one_at s k actors place old now.all at in
+    let some = other_at s script k actors place old low now.all at in
+    let who : old.performer.who ≡ turns.who = (now.all.each place old at).performer.who_is ∙ c.place_of-place.ensures.is in
+    let times : List ℕ = replicate turns.count old.performer.who in
+    let after = c.in_ok-turn_often.ensures k now.run one in
+    let there = often_all s script k c.pairs.cells c.turn_often.new.cells actors place old new low now at times (often_turned s old.performer.who turns.count k some) after.0 after.1 in
+    subst (λ (x : Journal). AreRunning s x c.turn_often.new.cells (slice_set actors place new))
+    (ap (λ (n : ℕ). run s (replicate turns.count n) k) who ∙ sym (pair_more s c.pairs.index turns j c.turns-turns.ensures.value)) there
 
 pub returns : goal.returns
 returns c j all =

@@ -1,4 +1,4 @@
-use Rattle.std.proofs.Common.{inl, inr, true, ◌⊎◌, ◌≡◌, ℕ, ◌+◌, ◌≤◌, sym, subst, arith}
+use Rattle.std.proofs.Common.{inl, true, ◌≡◌, ℕ, ◌≤◌, sym, subst, arith}
 use Rattle.std.specs.Prelude.{replicate}
 use Rattle.journal.specs.Journals.{Journal}
 use Rattle.journal.specs.Worlds.{run}

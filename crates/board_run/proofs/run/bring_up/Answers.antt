@@ -1,4 +1,4 @@
-use Rattle.std.proofs.Common.{◌≡◌, ◌<◌, ◌⊎◌, inl, inr, ℕ, false, List, length, refl, arith}
+use Rattle.std.proofs.Common.{inr, false, List, refl, arith}
 use Rattle.std.proofs.lemmas.Result.{IfOk-weaker}
 use Rattle.journal.specs.Worlds.{first}
 use Rattle.actor_core.specs.declared.actor.Actor.{Actor}

@@ -1,4 +1,4 @@
-use Rattle.std.proofs.Common.{◌≡◌, ◌<◌, ◌⊎◌, inl, inr, ℕ, true, List, length, refl, ap, arith}
+use Rattle.std.proofs.Common.{inr, true, List, refl, ap, arith}
 use Rattle.journal.specs.Journals.{Journal}
 use Rattle.actor_core.specs.declared.actor.Actor.{Actor}
 use Rattle.actor_core.specs.declared.lists.LeftList.{LeftList}

@@ -1,4 +1,4 @@
-use Rattle.std.proofs.Common.{◌≡◌, sym, subst}
+use Rattle.std.proofs.Common.{sym, subst}
 use Rattle.journal.specs.Worlds.{first}
 use Rattle.board_run.specs.Standing.{HoldsJournal}
 use Rattle.board_run.proofs.Beginning.{new_hold}
