@@ -5,3 +5,4 @@ pub mod Output
 pub mod Putting
 pub mod Reading
 pub mod Outcome
+pub mod Headline

@@ -1,5 +1,5 @@
 //! What a command makes of a text.
-ghost use Rattle.std.specs.Prelude.{◌≡◌, ◌<◌, ◌-◌, ◌^◌, length};
+ghost use Rattle.std.specs.Prelude.{◌≡◌, ◌<◌, ◌-◌, ◌^◌, length, IfOk};
 ghost use Rattle.script_words.specs.Texts.{Reads};
 ghost use Rattle.admin_script.specs.Admin.{admin_text_of};
 ghost use Rattle.admin_run.specs.Answers.{admin_output};
@@ -8,6 +8,7 @@ ghost use Rattle.board_script.specs.declared.draft.Use.TheVariants as Use;
 ghost use Rattle.alone_run.specs.Transcript.{alone_text};
 ghost use Rattle.group_board.specs.Output.{output_for, output_of, step_text};
 ghost use Rattle.group_board.specs.Putting.{Makes};
+ghost use Rattle.group_board.specs.Headline.{HasHeadline, HasItsHeadline};
 
 use crate::words::Command;
 use admin_run::run_admin;
@@ -48,7 +49,8 @@ fn alone(alloc: Global, text: &[u8]) -> Result<Bytes, ScriptFault>
 
 fn step(alloc: Global, text: &[u8]) -> Result<Output, ScriptFault>
     requires { length text.now < 2 ^ 32 - 1 }
-    ensures { Makes result (output_for step_text (script_of Use.Group text.now)) }
+    ensures made { Makes result (output_for step_text (script_of Use.Group text.now)) }
+    ensures headline { IfOk result (λ output. HasHeadline text.now) }
 {
     let script = read_script(alloc, text)?;
     match run_steps(alloc, &script) {
@@ -60,7 +62,8 @@ fn step(alloc: Global, text: &[u8]) -> Result<Output, ScriptFault>
 /// The output of a command for a text, or the text's first fault.
 pub fn perform(alloc: Global, command: Command, text: &[u8]) -> Result<Output, ScriptFault>
     requires { length text.now < 2 ^ 32 - 1 }
-    ensures { Makes result (output_of command text.now) }
+    ensures made { Makes result (output_of command text.now) }
+    ensures headline { IfOk result (λ output. HasItsHeadline command text.now) }
 {
     match command {
         Command::Admin => Ok(Output::Text(admin(alloc, text)?)),

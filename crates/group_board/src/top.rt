@@ -3,6 +3,7 @@ ghost use Rattle.std.specs.Prelude.{◌≡◌, ◌≤◌, ◌⊎◌, ◌↔◌, 
 ghost use Rattle.board_io.specs.Faults.{Rose};
 ghost use Rattle.group_board.specs.Limits.{transfer_limit};
 ghost use Rattle.group_board.specs.Words.{command_named as named};
+ghost use Rattle.group_board.specs.Headline.{PutsHeadline};
 ghost use Rattle.group_board.specs.Outcome.{SaysOf, PutsOf, PutsNothing, ReadsToEnd, status_of};
 
 use crate::commands::perform;
@@ -32,6 +33,7 @@ pub fn board_once<R: Source, W: Sink>(
     ensures usage { (result ≡ Status.Usage) ↔ (named words.now ≡ None) }
     ensures untouched { result ≡ Status.Usage → (source.new ≡ source.old) × (sink.new ≡ sink.old) }
     ensures text { IfSome (R.left source.old) (λ text. IfSome (named words.now) (λ command. SaysOf command result text (W.held sink.old) (W.held sink.new))) }
+    ensures headline { result ≡ Status.Done → PutsHeadline (named words.now) (R.left source.old) (W.held sink.old) (W.held sink.new) }
     ensures put { IfSome (named words.now) (λ command. PutsOf command result (W.held sink.old) (W.held sink.new)) }
     ensures nothing { PutsNothing result (W.held sink.old) (W.held sink.new) }
     ensures to_end { IfSome (R.left source.old) (λ text. ReadsToEnd result (R.left source.new)) }
@@ -83,6 +85,7 @@ pub fn board<Rt: Threads + Sync, R: Source, W: Sink, G: Gate + Sync>(
     ensures usage { (result ≡ Status.Usage) ↔ (named words.now ≡ None) }
     ensures untouched { result ≡ Status.Usage → (source.new ≡ source.old) × (sink.new ≡ sink.old) }
     ensures text { IfSome (R.left source.old) (λ text. IfSome (named words.now) (λ command. SaysOf command result text (W.held sink.old) (W.held sink.new))) }
+    ensures headline { result ≡ Status.Done → PutsHeadline (named words.now) (R.left source.old) (W.held sink.old) (W.held sink.new) }
     ensures put { IfSome (named words.now) (λ command. PutsOf command result (W.held sink.old) (W.held sink.new)) }
     ensures nothing { PutsNothing result (W.held sink.old) (W.held sink.new) }
     ensures to_end { IfSome (R.left source.old) (λ text. ReadsToEnd result (R.left source.new)) }

@@ -35,6 +35,7 @@ pub fn put_output<W: Sink>(sink: &mut W, output: &Output) -> PutAnswer
     ensures held { PutsOn (W.held sink.old) (W.held sink.new) result (text_of output.now) }
     ensures never_falls { W.faults sink.old ≤ W.faults sink.new }
     ensures widest { W.widest sink.new ≤ max (W.widest sink.old) transfer_limit }
+    ensures failures_alone { (result ≡ PutAnswer.Failed) ⊎ (W.faults sink.new ≡ W.faults sink.old) }
     ensures failed { result ≡ PutAnswer.Failed → Rose (W.faults sink.old) (W.faults sink.new) }
 {
     match output {
