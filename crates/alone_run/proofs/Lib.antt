@@ -1,1 +1,2 @@
 pub mod Performing
+mod Places
