@@ -1,0 +1,5 @@
+pub mod Disabled
+pub mod Apart
+pub mod Reads
+pub mod Rest
+pub mod Notified

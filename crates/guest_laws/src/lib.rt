@@ -1,0 +1,42 @@
+//! The laws of whole runs in the words of their subject: what a disabling ends, that no notification is forgotten, that
+//! guests are apart, and what a guest reads.
+//!
+//! The crate has no code. Its functions have empty bodies, and their clauses are the laws.
+#![tactic(auto)]
+
+ghost use Rattle.guest_laws.specs.Disabled.{DisabledIsLeft};
+ghost use Rattle.guest_laws.specs.Apart.{GuestsAreApart};
+ghost use Rattle.guest_laws.specs.Reads.{GuestsReadOwn, MarkedIsOwn};
+ghost use Rattle.guest_laws.specs.Rest.{QueuesComeToRest};
+ghost use Rattle.guest_laws.specs.Notified.{NotificationsAreAttended};
+
+/// After a disabling no register access takes effect: each later call but a read or write of the guest's memory is
+/// answered Gone, and the member's registers, queues and disk stay as they were.
+pub fn disabled_members_are_left()
+    ensures { DisabledIsLeft }
+{}
+
+/// No two guests touch each other's memory, disk, frames or registers: where the events of a guest's own history are the
+/// same in two runs, of whatever scripts, its replies are, and up to the cut its memory, disk and registers.
+pub fn guests_are_apart()
+    ensures { GuestsAreApart }
+{}
+
+/// What a guest reads is a function of its own history alone: its line of a rank shows the reply to its own event of that
+/// rank, which is what a lone device replies to the events of own history.
+pub fn guests_read_their_own_history()
+    ensures reads { GuestsReadOwn }
+    ensures marked { MarkedIsOwn }
+{}
+
+/// Behind the drain each queue of each member isn't pending, unless the member was killed or the queue is printed as left.
+pub fn queues_come_to_rest()
+    ensures { QueuesComeToRest }
+{}
+
+/// Every notification is answered by a step, or the queue is left: behind a notification stands a step of the queue that
+/// found that nothing was left to do, unless the queue is halted, reset, given a new address, gone with its member, or
+/// printed as left.
+pub fn notifications_are_attended()
+    ensures { NotificationsAreAttended }
+{}
