@@ -1,2 +1,2 @@
-pub mod FewLines
 pub mod Stepping
+pub mod Headlined

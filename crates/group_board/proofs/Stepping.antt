@@ -10,7 +10,7 @@ use Rattle.journal.specs.Journals.{Journal}
 use Rattle.journal.specs.Worlds.{schedule}
 use Rattle.journal.specs.Texts.{answer_lines}
 use Rattle.journal.specs.Settling.{has_ended, has_lines, final, final_of}
-use Rattle.journal.specs.Laws.{IsShortRun}
+use Rattle.world_laws.proofs.Short.{IsShortRun, short_run}
 use Rattle.world_laws.proofs.Counts.{schedule_short}
 use Rattle.world_laws.proofs.Ended.{all_ended}
 use Rattle.group_cells.specs.Plain.{Plain}
@@ -22,7 +22,6 @@ use Rattle.board_render.specs.Cells.{AreCells}
 use Rattle.board_render.specs.Runs.{run_text, AreRunOf}
 use Rattle.board_render.proofs.RunTexts.{run_agrees}
 use Rattle.group_board.specs.Output.{output_for, step_text}
-use Rattle.group_board.proofs.FewLines.{read_few}
 
 -- ---- all lines have ended
 
@@ -34,9 +33,9 @@ all_shown : (s : Whole) (who : ℕ) (past : List Performed) → has_ended s who 
 all_shown s who [] ended = refl
 all_shown s who (p ∷ past) ended = rw ended refl
 
-module _ (s : Whole) (script : IsScript s) (few : length s.lines ≤ 2 ^ 32) where
+module _ (s : Whole) (script : IsScript s) where
   short : IsShortRun s (schedule s)
-  short = record { lines = few; turns = schedule_short s script }
+  short = short_run s (schedule s) script (schedule_short s script)
 
   ended : (who : ℕ) → has_ended s who ((final_of s).past who) ≡ true
   ended who = neither (has_ended s who ((final_of s).past who)) (nat_lt (length ((final_of s).past who)) (length (lines_of s who))) (all_ended s script (schedule s) short who)
@@ -63,10 +62,8 @@ module _ (s : Whole) (script : IsScript s) (few : length s.lines ≤ 2 ^ 32) whe
     }
 
 -- the text of the definition's run of what was read
-pub step_made : (text : List ℕ) (s : Whole) (cells : Plain) (actors : List Actor) (left : List LeftItem) → length text < 2 ^ 32 - 1 → IsScript s → script_of Group text ≡ Ok s → IsRun s (final_of s) cells actors left
+pub step_made : (text : List ℕ) (s : Whole) (cells : Plain) (actors : List Actor) (left : List LeftItem) → IsScript s → script_of Group text ≡ Ok s → IsRun s (final_of s) cells actors left
     → (output_for step_text (script_of Group text) ≡ Ok (run_text cells actors left)) × (length cells.members < length actors)
-step_made text s cells actors left small script read run =
-    let few = read_few Group text s read in
-    let fewer : length s.lines ≤ 2 ^ 32 = omega (arith, few, small) in
-    let is = is_run s script fewer cells actors left run in
-    (ap (output_for step_text) read ∙ ap (λ (t : List ℕ). Ok t) (sym (run_agrees s (final_of s) cells actors left is)), some_guests s script fewer cells actors left run)
+step_made text s cells actors left script read run =
+    let is = is_run s script cells actors left run in
+    (ap (output_for step_text) read ∙ ap (λ (t : List ℕ). Ok t) (sym (run_agrees s (final_of s) cells actors left is)), some_guests s script cells actors left run)
