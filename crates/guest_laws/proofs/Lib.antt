@@ -6,3 +6,5 @@ pub mod Idle
 pub mod Steps
 pub mod Rest
 pub mod Attended
+pub mod Alike
+pub mod Killing

@@ -1,3 +1,4 @@
+pub mod Disabling
 pub mod Disabled
 pub mod Apart
 pub mod Reads

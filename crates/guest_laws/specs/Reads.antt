@@ -60,3 +60,21 @@ pub record ReadsOwn (s : Whole) (j : Journal) (g : ℕ) : Type 0 where
 
 abbrev pub GuestsReadOwn : Type 0
 GuestsReadOwn = (s : Whole) (j : Journal) → IsScript s → IsLegalJournal s j → (g : ℕ) → IsGuestOf s g → ReadsOwn s j g
+
+-- ---- so two own histories with the same events are read alike
+
+-- the events of own history, each with its mark
+abbrev pub own_story : ℕ → List MemberEntry → List (Bool × LoneEvent)
+own_story g h = map (λ x. (x.guests, x.item.event)) (marked g h)
+
+-- of two lists, from the latest on, the lines of a rank have the same event, and where they ask the same and neither is in doubt they show the same
+abbrev pub ShowSame : List LineEvent → List LineEvent → Type 0
+ShowSame [] [] = Unit {0}
+ShowSame (l ∷ lines) (k ∷ others) = (l.event ≡ k.event) × (l.what ≡ k.what → in_doubt l ≡ false → in_doubt k ≡ false → l.shown ≡ k.shown) × ShowSame lines others
+ShowSame _ _ = ⊥
+
+-- in two journals, of whatever scripts and whatever the other guests do
+abbrev pub SameStoryIsRead : Type 0
+SameStoryIsRead =
+    (s t : Whole) (j i : Journal) → IsScript s → IsScript t → IsLegalJournal s j → IsLegalJournal t i → (g : ℕ) → IsGuestOf s g → IsGuestOf t g → made_of s g ≡ made_of t g
+    → own_story g (j.member g) ≡ own_story g (i.member g) → (a : ReadsOwn s j g) (b : ReadsOwn t i g) → ShowSame a.eventful b.eventful

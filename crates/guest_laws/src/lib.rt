@@ -4,11 +4,18 @@
 //! The crate has no code. Its functions have empty bodies, and their clauses are the laws.
 #![tactic(auto)]
 
+ghost use Rattle.guest_laws.specs.Disabling.{DisablingKills, ResettingKills};
 ghost use Rattle.guest_laws.specs.Disabled.{DisabledIsLeft};
 ghost use Rattle.guest_laws.specs.Apart.{GuestsAreApart};
-ghost use Rattle.guest_laws.specs.Reads.{GuestsReadOwn, MarkedIsOwn};
+ghost use Rattle.guest_laws.specs.Reads.{GuestsReadOwn, MarkedIsOwn, SameStoryIsRead};
 ghost use Rattle.guest_laws.specs.Rest.{QueuesComeToRest};
 ghost use Rattle.guest_laws.specs.Notified.{NotificationsAreAttended};
+
+/// A line that disables a member kills it, and a line that resets the owner kills each member.
+pub fn disablings_kill()
+    ensures disabled { DisablingKills }
+    ensures reset { ResettingKills }
+{}
 
 /// After a disabling no register access takes effect: each later call but a read or write of the guest's memory is
 /// answered Gone, and the member's registers, queues and disk stay as they were.
@@ -23,10 +30,12 @@ pub fn guests_are_apart()
 {}
 
 /// What a guest reads is a function of its own history alone: its line of a rank shows the reply to its own event of that
-/// rank, which is what a lone device replies to the events of own history.
+/// rank, which is what a lone device replies to the events of own history. So where own history has the same events in two
+/// runs, of whatever scripts, the lines of a rank show the same.
 pub fn guests_read_their_own_history()
     ensures reads { GuestsReadOwn }
     ensures marked { MarkedIsOwn }
+    ensures same { SameStoryIsRead }
 {}
 
 /// Behind the drain each queue of each member isn't pending, unless the member was killed or the queue is printed as left.
