@@ -1,40 +1,8 @@
-"""A ring that feeds itself: a chain reads the sector that the used index numbers into the available index.
+import os
+import sys
 
-Sector s begins with s + 2, so that one more chain is available after each request, up to 4094 of them.
-"""
-SERVED, SECTORS, AT_ONCE = 4094, 4096, 400
-RING, AVAILABLE, USED, HEADER, DATA = 4096 * 4, 4096 * 4 + 256, 4096 * 5, 4096 * 6, 4096 * 8
-NEXT, WRITE = 1, 2
+sys.path.insert(0, os.path.join(os.path.dirname(os.path.abspath(__file__)), "..", ".."))
 
+from feeding_ring import write_script
 
-def le(number, size):
-    return number.to_bytes(size, "little").hex()
-
-
-def descriptor(address, length, flags, after):
-    return le(address, 8) + le(length, 4) + le(flags, 2) + le(after, 2)
-
-
-print("board 1 4 0")
-print(f"guest 1 block 64 {SECTORS}")
-print(f"g1 out 8 {le(4, 4)}")
-for request, first in enumerate(range(0, SECTORS, AT_ONCE)):
-    count = min(AT_ONCE, SECTORS - first)
-    for sector in range(first, first + count):
-        ahead = sector + 2 if sector + 1 < SERVED else sector + 1
-        print(f"g1 mem {DATA + 512 * (sector - first)} {le(ahead, 2)}")
-    print(f"g1 mem {HEADER} {le(1, 4)}{le(0, 4)}{le(first, 8)}")
-    print(f"g1 mem {RING} {descriptor(HEADER, 16, NEXT, 1)}{descriptor(DATA, 512 * count, NEXT, 2)}{descriptor(HEADER + 16, 1, WRITE, 0)}")
-    print(f"g1 mem {AVAILABLE + 2} {le(request + 1, 2)}")
-    print("g1 out 16 0000")
-    print("g1 poll 0")
-
-# the ring begins anew; the request's sector is the used index, and the first 2 bytes read go to the available index
-print(f"g1 out 8 {le(4, 4)}")
-print(f"g1 mem {USED + 2} 0000")
-print(f"g1 mem {HEADER} {le(0, 16)}")
-chain = descriptor(HEADER, 8, NEXT, 1) + descriptor(USED + 2, 2, NEXT, 2) + descriptor(HEADER, 6, NEXT, 3)
-chain += descriptor(AVAILABLE + 2, 2, NEXT | WRITE, 4) + descriptor(DATA, 510, NEXT | WRITE, 5) + descriptor(HEADER + 16, 1, WRITE, 0)
-print(f"g1 mem {RING} {chain}")
-print(f"g1 mem {AVAILABLE} {le(0, 2)}{le(1, 2)}{le(0, 32)}")
-print("g1 out 16 0000")
+write_script(4094)
