@@ -8,3 +8,4 @@ pub mod Rest
 pub mod Attended
 pub mod Alike
 pub mod Killing
+pub mod Touching

@@ -4,3 +4,4 @@ pub mod Apart
 pub mod Reads
 pub mod Rest
 pub mod Notified
+pub mod Touched

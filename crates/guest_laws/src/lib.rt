@@ -6,6 +6,7 @@
 
 ghost use Rattle.guest_laws.specs.Disabling.{DisablingKills, ResettingKills};
 ghost use Rattle.guest_laws.specs.Disabled.{DisabledIsLeft};
+ghost use Rattle.guest_laws.specs.Touched.{EachIsTouchedByOwn};
 ghost use Rattle.guest_laws.specs.Apart.{GuestsAreApart};
 ghost use Rattle.guest_laws.specs.Reads.{GuestsReadOwn, MarkedIsOwn, SameStoryIsRead};
 ghost use Rattle.guest_laws.specs.Rest.{QueuesComeToRest};
@@ -23,7 +24,14 @@ pub fn disabled_members_are_left()
     ensures { DisabledIsLeft }
 {}
 
-/// No two guests touch each other's memory, disk, frames or registers: where the events of a guest's own history are the
+/// A member is touched by its own guest, and by lines that name it, alone: its memory, doorbells, MSI-X and interrupts are
+/// its guest's; a register access is that of a line of its guest; a step, a frame and a reset are its guest's too, or
+/// asked for by a line of a worker, the host or the drain for this member.
+pub fn members_are_touched_by_their_own()
+    ensures { EachIsTouchedByOwn }
+{}
+
+/// So no two guests touch each other's memory, disk, frames or registers: where the events of a guest's own history are the
 /// same in two runs, of whatever scripts, its replies are, and up to the cut its memory, disk and registers.
 pub fn guests_are_apart()
     ensures { GuestsAreApart }
