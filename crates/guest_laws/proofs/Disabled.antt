@@ -1,9 +1,9 @@
 -- What is left behind a Kill.
 use Rattle.std.proofs.Common.{◌≡◌, ℕ, ◌+◌, ◌-◌, ◌≤◌, inl, inr, Bool, true, false, cond, List, [], ◌∷◌, length, Option, None, Some, refl, sym, ap, ◌∙◌, arith, subst, true≢false}
 use Rattle.std.proofs.lemmas.Bool.{cases_lt}
-use Rattle.history.specs.Places.{before}
+use Rattle.history.specs.Places.{entry_at, before}
 use Rattle.history.specs.Look.{or_else}
-use Rattle.history.proofs.PlaceLemmas.{entry_at-in, before-all}
+use Rattle.history.proofs.PlaceLemmas.{entry_at-in, before-all, before-more}
 use Rattle.history.specs.Legal.{never_quiet}
 use Rattle.history.proofs.LegalLemmas.{before-skip, before_earlier, legal_earlier}
 use Rattle.place_laws.proofs.Places.{entry_kept}
@@ -17,13 +17,15 @@ use Rattle.group_calls.specs.MemberRegisters.{registers_after}
 use Rattle.group_calls.specs.Facts.{facts}
 use Rattle.group_calls.specs.Storage.{memory_after, disk_after}
 use Rattle.group_calls.specs.Member.{kills, living_answer, member_answer, member_may, IsLegalMember}
+use Rattle.group_calls.specs.Steps.{outcome}
+use Rattle.group_calls.proofs.Stages.{memory_after-more}
 use Rattle.member_laws.specs.Ends.{killed}
-use Rattle.member_laws.proofs.Ends.{first_kill, by_end, answered_by, killed_after, later_killed, gone_after, gone_tells}
+use Rattle.member_laws.proofs.Ends.{first_kill, by_end, answered_by, answered_at, killed_after, later_killed, gone_after, gone_tells}
 use Rattle.board_script.specs.Script.{Whole}
 use Rattle.journal.specs.Lines.{made_of}
 use Rattle.journal.specs.Journals.{Journal, IsLegalJournal}
-use Rattle.guest_laws.specs.Disabled.{before_end, IsLeft}
-use Rattle.guest_laws.proofs.Inert.{IsInert, dead_inert, killing_inert, registers_kept, facts_kept, disk_kept}
+use Rattle.guest_laws.specs.Disabled.{before_end, is_memory_write, IsLeft}
+use Rattle.guest_laws.proofs.Inert.{IsInert, dead_inert, dead_memory, killing_inert, registers_kept, facts_kept, disk_kept}
 
 same_floor : (a b : ℕ) → Some a ≡ Some b → a ≡ b
 same_floor a b is = cc
@@ -105,6 +107,17 @@ module _ (made : MemberMade) where
       let same = same_floor dead.0 n (sym (later_killed h place dead.0 dead.1) ∙ was) in
       subst (IsKept made (before place h)) (twice h (n - 1) place (omega (arith, above))) (since_kill (before place h) n (legal_up_to made h place legal) (dead.1 ∙ ap Some same))
 
+  memory_kept : (h : List MemberEntry) (n place : ℕ) (e : MemberEntry) → IsLegalMember made h → killed h ≡ Some n → entry_at place h ≡ Some e → n ≤ place → is_memory_write e.call ≡ false
+      → memory_after made (before (place + 1) h) ≡ memory_after made (before place h)
+  memory_kept h n place e legal was at above other =
+      let it = first_kill h n was in
+      let past : List MemberEntry = before place h in
+      let dead = killed_after h it.place place it.entry (entry_kept h place it.place it.entry it.stands (omega (arith, it.above, above))) it.killing in
+      let answer = answered_at made h place e legal at ∙ ap (λ (o : Option ℕ). by_end made o (facts made past) (memory_after made past) (disk_after made past) e.call) dead.1 in
+      ap (memory_after made) (before-more h place e at)
+      ∙ (memory_after-more made e past
+      ∙ dead_memory e.call e.reply (living_answer made (facts made past) (memory_after made past) (disk_after made past) e.call) dead.0 (outcome made (memory_after made past) (disk_after made past) (facts made past)) (memory_after made past) answer other)
+
   pub is_left : (h : List MemberEntry) (n : ℕ) → IsLegalMember made h → killed h ≡ Some n → IsLeft made h n
   is_left h n legal was =
       let it = first_kill h n was in
@@ -116,6 +129,7 @@ module _ (made : MemberMade) where
         registers = λ place above. (at_place h n place legal was above).registers;
         facts = λ place above. (at_place h n place legal was above).facts_are;
         disk = λ place above. (at_place h n place legal was above).disk;
+        memory = λ place e at above other. memory_kept h n place e legal was at above other;
       }
 
 pub disabled_left : (s : Whole) (j : Journal) → IsLegalJournal s j → (m floor : ℕ) → killed (j.member m) ≡ Some floor → IsLeft (made_of s m) (j.member m) floor

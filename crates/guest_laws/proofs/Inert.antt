@@ -20,11 +20,12 @@ use Rattle.group_calls.specs.RegisterSteps.{registers_then}
 use Rattle.group_calls.specs.Member.{is_memory_call}
 use Rattle.group_calls.specs.Facts.{facts}
 use Rattle.group_calls.specs.Steps.{Outcome, outcome}
-use Rattle.group_calls.specs.Storage.{memory_after, disk_after}
+use Rattle.group_calls.specs.Storage.{memory_then, memory_after, disk_after}
 use Rattle.group_calls.specs.Replay.{disk_then}
 use Rattle.group_calls.proofs.Stages.{disk_after-more}
 use Rattle.group_calls.proofs.RegisterEntries.{registers_after-more}
 use Rattle.member_laws.proofs.Alike.{entry, either_way, two}
+use Rattle.guest_laws.specs.Disabled.{is_memory_write}
 
 pub and_none : (b : Bool) → (b && false) ≡ false
 and_none true = refl
@@ -153,6 +154,12 @@ dead_inert who call reply living floor is = subst (λ (r : MemberReply). IsInert
 
 pub killing_inert : (e : MemberEntry) → e.call ≡ Kill → IsInert e
 killing_inert e is = subst (λ (c : MemberCall). IsInert (entry e.who c e.reply)) (sym is) (kill_inert e.who e.reply)
+
+-- which writes nothing to the memory, unless it is such a write
+pub dead_memory : (call : MemberCall) (reply living : MemberReply) (floor : ℕ) (does : ℕ → Outcome) (memory : List ℕ) → reply ≡ cond (is_memory_call call) living (Gone floor) → is_memory_write call ≡ false → memory_then does memory call reply ≡ memory
+dead_memory (MemWrite addr bytes) reply living floor does memory is other = absurd (cc)
+dead_memory (Step queue) reply living floor does memory is other = ap (memory_then does memory (Step queue)) is
+dead_memory _ reply living floor does memory is other = refl
 
 -- ---- what stays
 

@@ -19,7 +19,8 @@ pub fn disablings_kill()
 {}
 
 /// After a disabling no register access takes effect: each later call but a read or write of the guest's memory is
-/// answered Gone, and the member's registers, queues and disk stay as they were.
+/// answered Gone, the member's registers, queues and disk stay as they were, and nothing but such a write changes the
+/// memory.
 pub fn disabled_members_are_left()
     ensures { DisabledIsLeft }
 {}
