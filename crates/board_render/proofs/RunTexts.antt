@@ -1,21 +1,19 @@
 -- The text of a run is that of its journal.
-use Rattle.std.proofs.Common.{◌≡◌, ℕ, ◌+◌, ◌<◌, ◌≤◌, inl, inr, List, [], ◌∷◌, ◌++◌, length, map, Some, refl, sym, ap, ◌∙◌, arith}
+use Rattle.std.proofs.Common.{◌≡◌, ℕ, ◌+◌, ◌<◌, ◌≤◌, inl, inr, List, [], ◌∷◌, ◌++◌, map, refl, sym, ap, ◌∙◌, arith}
 use Rattle.std.specs.Prelude.{flat_map, codes}
-use Rattle.std.specs.List.{slice_get}
 use Rattle.std.proofs.lemmas.Option.{slice_get_cases}
 use Rattle.board_script.specs.Script.{Whole}
 use Rattle.journal.specs.Lines.{numbers, members_of}
 use Rattle.journal.specs.Journals.{Journal}
 use Rattle.journal.specs.Settling.{left_in}
 use Rattle.journal.specs.Words.{and_number}
-use Rattle.journal.specs.Texts.{line_of, guest_part, left_line, transcripts, histories, rendered}
+use Rattle.journal.specs.Texts.{line_of, guest_part, left_line, transcripts, rendered}
 use Rattle.group_cells.specs.Plain.{Plain}
 use Rattle.actor_core.specs.declared.actor.Actor.{Actor}
 use Rattle.actor_core.specs.declared.items.LeftItem.{LeftItem}
 use Rattle.actor_core.specs.Kept.{left_pair}
 use Rattle.board_render.specs.Items.{left_text}
-use Rattle.board_render.specs.Cells.{cells_text}
-use Rattle.board_render.specs.Runs.{answers_of, transcript_of, transcripts_text, run_text, AreRunOf}
+use Rattle.board_render.specs.Runs.{transcript_of, transcripts_text, run_text, AreRunOf}
 use Rattle.board_render.proofs.Agreeing.{parts_same, cells_agree}
 
 left_same : (left : List LeftItem) → flat_map left_text left ≡ flat_map left_line (map left_pair left)
