@@ -10,7 +10,7 @@ use Rattle.io_bar.specs.Route.{is_local, place_behind, place_of}
 use Rattle.group_calls.specs.declared.lone.LoneEvent.TheVariants.{Read, Write}
 use Rattle.group_calls.specs.declared.member.MemberCall.{MemberCall}
 use Rattle.group_calls.specs.declared.member.MemberCall.TheVariants.{Act}
-use Rattle.alone_run.specs.Lines.{read_event, write_event}
+use Rattle.guest_lines.specs.Lines.{read_event, write_event}
 use Rattle.alone_run.specs.Kept.{call_of}
 
 read_behind : (below : Bool) (base offset count place : ℕ) → (if below then Common offset else Device (offset - base)) ≡ Common place → (if below then Act (CommonRead offset count) else Act (DevRead (offset - base) count)) ≡ Act (CommonRead place count)

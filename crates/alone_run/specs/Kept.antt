@@ -1,5 +1,5 @@
 -- What the code keeps of a guest, and what a function of it does. Of this project.
-use Rattle.std.specs.Prelude.{◌≡◌, ◌==◌, if◌then◌else◌, ℕ, Bool, true, length, List, [], ◌∷◌, ◌++◌, codes, Option, None, Some}
+use Rattle.std.specs.Prelude.{◌≡◌, ◌==◌, if◌then◌else◌, ℕ, Bool, List, [], ◌∷◌, ◌++◌, codes, Option, None, Some}
 use Rattle.legacy_regs.specs.Fields.{common_size}
 use Rattle.legacy_regs.specs.declared.device.Kind.{Kind}
 use Rattle.group_calls.specs.declared.member.MemberMade.{MemberMade}
@@ -12,10 +12,8 @@ use Rattle.group_calls.specs.Lone.{access_of, as_history, read_reply}
 use Rattle.board_script.specs.declared.script.ActorLine.{ActorLine}
 use Rattle.board_script.specs.declared.script.What.{What}
 use Rattle.board_script.specs.declared.script.What.TheVariants as what
-use Rattle.script_words.specs.Values.{is_width}
 use Rattle.alone_run.specs.declared.guest.Guest.{Guest}
 use Rattle.guest_lines.specs.Lines.{reply_words, lone_words, outside_words, event_of}
-use Rattle.guest_lines.specs.Widths.{HasWidth}
 use Rattle.alone_run.specs.Transcript.{events, transcript}
 use Rattle.guest_lines.specs.Earlier.{has_io, numbered}
 

@@ -1,5 +1,5 @@
 -- What a guest that is alone is shown: the answers of a lone device (VIRTIO 1.3, 4.1.4.10, legacy interfaces) to the lines of its script in the order of the text. The printed form is of this project.
-use Rattle.std.specs.Prelude.{ℕ, ◌==◌, Bool, true, List, [], ◌∷◌, ◌++◌, Option, None, Some, option_map, codes, if◌then◌else◌}
+use Rattle.std.specs.Prelude.{ℕ, ◌==◌, List, [], ◌∷◌, ◌++◌, Option, None, Some, option_map, codes, if◌then◌else◌}
 use Rattle.group_calls.specs.declared.member.MemberMade.{MemberMade}
 use Rattle.group_calls.specs.declared.lone.LoneEvent.{LoneEvent}
 use Rattle.group_calls.specs.declared.lone.LoneReply.{LoneReply}
