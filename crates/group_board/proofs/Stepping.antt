@@ -1,15 +1,14 @@
 -- A run of a script that was read has the text of the definition's run.
-use Rattle.std.proofs.Common.{◌≡◌, ℕ, ◌+◌, ◌-◌, ◌^◌, ◌<◌, ◌≤◌, Bool, true, false, List, [], ◌∷◌, length, refl, sym, ap, ◌∙◌, subst, arith, true≢false}
-use Rattle.std.specs.Prelude.{◌||◌, not, nat_lt, Result, Ok, Err}
+use Rattle.std.proofs.Common.{◌≡◌, ℕ, ◌<◌, Bool, true, false, List, [], ◌∷◌, length, refl, sym, ap, ◌∙◌, arith, true≢false}
+use Rattle.std.specs.Prelude.{◌||◌, not, nat_lt, Ok}
 use Rattle.board_script.specs.declared.draft.Use.TheVariants.{Group}
 use Rattle.board_script.specs.Script.{Whole, script_of}
 use Rattle.board_script.specs.Bounds.{IsScript}
-use Rattle.journal.specs.Lines.{lines_of, members_of}
+use Rattle.journal.specs.Lines.{lines_of}
 use Rattle.journal.specs.Performing.{Performed}
-use Rattle.journal.specs.Journals.{Journal}
 use Rattle.journal.specs.Worlds.{schedule}
 use Rattle.journal.specs.Texts.{answer_lines}
-use Rattle.journal.specs.Settling.{has_ended, has_lines, final, final_of}
+use Rattle.journal.specs.Settling.{has_ended, final_of}
 use Rattle.world_laws.proofs.Short.{IsShortRun, short_run}
 use Rattle.world_laws.proofs.Counts.{schedule_short}
 use Rattle.world_laws.proofs.Ended.{all_ended}
