@@ -1,6 +1,6 @@
 -- What a block request is answered, and what it leaves on the disk: VIRTIO 1.3, 5.2.6. A request is le32 type, le32
 -- reserved, le64 sector and data.
-use Rattle.std.specs.Prelude.{◌≡◌, ℕ, ◌+◌, ◌-◌, ◌*◌, ◌/◌, ◌%◌, ◌==◌, nat_lt, nat_le, Bool, not, ◌&&◌, ◌||◌, List, [], ◌∷◌, ◌++◌, length, take, drop, replicate, codes, if◌then◌else◌}
+use Rattle.std.specs.Prelude.{◌≡◌, ◌≤◌, ℕ, ◌+◌, ◌-◌, ◌*◌, ◌/◌, ◌%◌, ◌==◌, nat_lt, nat_le, Bool, not, ◌&&◌, ◌||◌, List, [], ◌∷◌, ◌++◌, length, take, drop, replicate, codes, Option, None, Some, if◌then◌else◌}
 use Rattle.byte_fields.specs.Places.{le32, le64, bytes_at, overwrite}
 use Rattle.byte_fields.specs.Sizes.{sector_size}
 use Rattle.blk_engine.specs.declared.service.BlkAnswer.{BlkAnswer}
@@ -69,6 +69,16 @@ answered member read_only disk request writable =
 abbrev pub disk_after : Bool → List ℕ → List ℕ → ℕ → List ℕ
 disk_after read_only disk request writable =
     if is_malformed request writable then disk else disk_after_request read_only disk request writable
+
+-- the disk after the data of a request, which stands behind its header, was put at a sector, or nowhere: 5.2.6
+abbrev pub stored : Option ℕ → List ℕ → List ℕ → List ℕ
+stored None request disk = disk
+stored (Some sector) request disk = overwrite (sector_size * sector) (drop 16 request) disk
+
+-- the request has a header, and there is room for its data behind the start of the sector; of this project
+abbrev pub HasRoomAt : Option ℕ → List ℕ → List ℕ → Type 0
+HasRoomAt None request disk = Unit {0}
+HasRoomAt (Some sector) request disk = (16 ≤ length request) × (sector_size * sector + (length request - 16) ≤ length disk)
 
 -- the reply has this length; of this project
 abbrev pub HasLength : ℕ → BlkAnswer → Type 0

@@ -16,4 +16,4 @@ mod tests;
 
 pub use disk::{Disk, SECTOR_LIMIT, SECTOR_SIZE};
 pub use laws::{disks_cross_threads, sizes};
-pub use service::{BlkAnswer, answer, serve, store};
+pub use service::{BlkAnswer, BlkPlan, plan, put, serve};

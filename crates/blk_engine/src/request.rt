@@ -1,5 +1,5 @@
 //! What a request asks for, and its status (VIRTIO 1.3, 5.2.6).
-ghost use Rattle.std.specs.Prelude.{◌≡◌, ◌≤◌, ◌==◌, ◌&&◌, length, if◌then◌else◌};
+ghost use Rattle.std.specs.Prelude.{◌≡◌, ◌≤◌, ◌==◌, ◌&&◌, length, Some, None, if◌then◌else◌};
 ghost use Rattle.byte_fields.specs.Places.{le32, le64};
 ghost use Rattle.blk_engine.specs.Block.{are_sectors as are_sectors_of, status as status_for};
 ghost use Rattle.blk_engine.specs.Parsed.{parsed};
@@ -100,10 +100,14 @@ impl Request {
         }
     }
 
-    /// Whether it puts its data on the disk.
-    pub(crate) fn is_put(self, capacity: u64, read_only: bool) -> bool
-        ensures { result ≡ (self.kind == 1 && status_for capacity read_only self.kind self.sector self.given self.room == 0) }
+    /// The sector at which its data goes onto the disk, where it has this status, if any does.
+    pub(crate) fn put_at(self, status: u8) -> Option<u64>
+        ensures { result ≡ (if (self.kind == 1) && (status == 0) then Some self.sector else None) }
     {
-        self.kind == OUT && self.status(capacity, read_only) == OK
+        if self.kind == OUT && status == OK {
+            Some(self.sector)
+        } else {
+            None
+        }
     }
 }

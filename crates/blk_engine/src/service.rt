@@ -1,7 +1,7 @@
 //! Requests are answered, and change the disk (VIRTIO 1.3, 5.2.6).
 ghost use Rattle.std.specs.Prelude.{◌≡◌, ◌<◌, ◌≤◌, ◌^◌, length, IfOk, OnOk, OnErr};
 ghost use Rattle.byte_fields.specs.Sizes.{member_limit};
-ghost use Rattle.blk_engine.specs.Block.{answered, disk_after, HasLength};
+ghost use Rattle.blk_engine.specs.Block.{answered, disk_after, stored, HasLength, HasRoomAt};
 
 use crate::disk::Disk;
 use crate::request::{HEADER_SIZE, parse};
@@ -17,48 +17,61 @@ pub enum BlkAnswer {
     Malformed,
 }
 
-/// What a request of a member's driver is answered (VIRTIO 1.3, 5.2.6), given the bytes to read and how many may be written.
-/// Nothing changes. The member's number is at most 999; `writable` is below 2^32. `Malformed` exactly where the request has
-/// fewer than 16 bytes or nothing is writable; else the reply has exactly `writable` bytes, the status last and zeros where
-/// nothing else is said. `NoMemory` where the reply can't be had.
-pub fn answer(
+/// What a request is answered, and the sector at which its data goes onto the disk, if any does.
+#[derive(Debug, Drop)]
+pub struct BlkPlan {
+    pub answer: BlkAnswer,
+    pub put_at: Option<u64>,
+}
+
+/// What a request of a member's driver is answered (VIRTIO 1.3, 5.2.6), given the bytes to read and how many may be written,
+/// and where its data goes. Nothing changes. The member's number is at most 999; `writable` is below 2^32. `Malformed`
+/// exactly where the request has fewer than 16 bytes or nothing is writable; else the reply has exactly `writable` bytes, the
+/// status last and zeros where nothing else is said. Only the data of an OUT with the status OK goes onto the disk.
+/// `NoMemory` where the reply can't be had.
+pub fn plan(
     alloc: Global,
     disk: &Disk,
     member: u32,
     read_only: bool,
     request: &Bytes,
     writable: u64,
-) -> Result<BlkAnswer, NoMemory>
+) -> Result<BlkPlan, NoMemory>
     requires member { member ≤ member_limit }
     requires writable { writable < 2 ^ 32 }
-    ensures answer { IfOk result (λ answer. answer ≡ answered member read_only disk.now request.now writable) }
-    ensures size { IfOk result (HasLength writable) }
+    ensures answer { IfOk result (λ plan. plan.answer ≡ answered member read_only disk.now request.now writable) }
+    ensures size { IfOk result (λ plan. HasLength writable plan.answer) }
+    ensures put { IfOk result (λ plan. stored plan.put_at request.now disk.now ≡ disk_after read_only disk.now request.now writable) }
+    ensures room { IfOk result (λ plan. HasRoomAt plan.put_at request.now disk.now) }
 {
     let Some(asked) = parse(request.as_slice(), writable) else {
-        return Ok(BlkAnswer::Malformed);
+        return Ok(BlkPlan {
+            answer: BlkAnswer::Malformed,
+            put_at: None,
+        });
     };
     let status = asked.status(disk.capacity(), read_only);
     let reply = asked.reply(alloc, disk, member, status)?;
-    Ok(BlkAnswer::Reply(reply))
+    Ok(BlkPlan {
+        answer: BlkAnswer::Reply(reply),
+        put_at: asked.put_at(status),
+    })
 }
 
-/// Puts on the disk what a request writes (VIRTIO 1.3, 5.2.6), given the same as for its answer. Only an OUT with the status OK
-/// changes the disk, and nothing its length. It takes no memory.
-pub fn store(disk: &mut Disk, read_only: bool, request: &Bytes, writable: u64)
-    ensures disk { disk.new ≡ disk_after read_only disk.old request.now writable }
+/// Puts the data of a request onto the disk at this sector, or nowhere (VIRTIO 1.3, 5.2.6). Every other byte stays, and the
+/// length does. It takes no memory.
+pub fn put(disk: &mut Disk, put_at: Option<u64>, request: &Bytes)
+    requires { HasRoomAt put_at request.now disk.old }
+    ensures disk { disk.new ≡ stored put_at request.now disk.old }
     ensures length { length disk.new ≡ length disk.old }
 {
-    let request = request.as_slice();
-    let Some(asked) = parse(request, writable) else {
-        return;
-    };
-    if asked.is_put(disk.capacity(), read_only) {
-        disk.write(asked.sector, &request[HEADER_SIZE..]);
+    if let Some(sector) = put_at {
+        disk.write(sector, &request.as_slice()[HEADER_SIZE..]);
     }
 }
 
-/// Answers a request, as `answer` does, and puts on the disk what it writes, as `store` does. `NoMemory` where the reply can't
-/// be had; then the disk is as it was.
+/// Answers a request, and puts its data onto the disk where its answer says so, by `plan` and `put`. `NoMemory` where the
+/// reply can't be had; then the disk is as it was.
 pub fn serve(
     alloc: Global,
     disk: &mut Disk,
@@ -74,7 +87,7 @@ pub fn serve(
     ensures disk { OnOk result (disk.new ≡ disk_after read_only disk.old request.now writable) }
     ensures err { OnErr result (disk.new ≡ disk.old) }
 {
-    let answer = answer(alloc, disk, member, read_only, request, writable)?;
-    store(disk, read_only, request, writable);
+    let BlkPlan { answer, put_at } = plan(alloc, disk, member, read_only, request, writable)?;
+    put(disk, put_at, request);
     Ok(answer)
 }

@@ -1,11 +1,11 @@
 -- A service that is done is the one that was planned.
-use Rattle.std.proofs.Common.{◌≡◌, ℕ, Bool, true, false, List, [], ◌∷◌, ◌++◌, length, drop, refl, sym, ap, ◌∙◌, arith}
+use Rattle.std.proofs.Common.{◌≡◌, ℕ, Option, Bool, true, false, List, [], ◌∷◌, ◌++◌, length, drop, refl, sym, ap, ◌∙◌, arith}
 use Rattle.std.specs.Prelude.{◌==◌, ◌&&◌, ◌||◌, if◌then◌else◌}
 use Rattle.std.proofs.lemmas.Bool.Decides.{nat_tests}
 use Rattle.ring_layout.specs.declared.layout.Layout.{Layout}
 use Rattle.ring_layout.specs.declared.descriptor.Descriptor.{Descriptor}
-use Rattle.ring_layout.specs.Chain.{Write, written, scattered, used_writes, writable_part, total_length, available}
-use Rattle.blk_engine.specs.Block.{disk_after}
+use Rattle.ring_layout.specs.Chain.{Write, written, scattered, used_writes, writable_part, available}
+use Rattle.blk_engine.specs.Block.{stored}
 use Rattle.legacy_regs.specs.declared.interrupts.Irq.{Irq}
 use Rattle.group_calls.specs.declared.member.MemberReply.TheVariants.{Served}
 use Rattle.group_calls.specs.Facts.{Facts}
@@ -76,14 +76,11 @@ module _ (d : Holdings) (q position : ℕ) (p : Place) (reply : List ℕ) (irq :
 
       module _ (used : Holdings) (used_is : used ≡ record d { registers = raised_by irq d.registers; memory = put_back d.memory position p reply }) where
         -- a request of a block device, for which no frame waits
-        pub request_leaves : (done : Holdings) (ro : Bool) (request : List ℕ) (writable : ℕ) → done ≡ record used { disk = disk_after ro used.disk request writable }
-            → writable ≡ total_length (writable_part p.chain.parts) → d.waiting ≡ []
-            → done ≡ left_by_step q (service d.memory (facts_of d position pending) q p.layout p.chain.parts reply (disk_after ro d.disk request (total_length (writable_part p.chain.parts))) []) d
-        request_leaves done ro request writable done_is writable_is none =
+        pub request_leaves : (done : Holdings) (at : Option ℕ) (request : List ℕ) → done ≡ record used { disk = stored at request used.disk } → d.waiting ≡ []
+            → done ≡ left_by_step q (service d.memory (facts_of d position pending) q p.layout p.chain.parts reply (stored at request d.disk) []) d
+        request_leaves done at request done_is none =
             served_leaves done _ [] d.waiting
-            (done_is
-            ∙ ap (λ (x : Holdings). record x { disk = disk_after ro x.disk request writable }) used_is
-            ∙ ap (λ (n : ℕ). record d { registers = raised_by irq d.registers; memory = put_back d.memory position p reply; disk = disk_after ro d.disk request n }) writable_is)
+            (done_is ∙ ap (λ (x : Holdings). record x { disk = stored at request x.disk }) used_is)
             (none_leaves q d.waiting none)
 
         -- a frame that was received

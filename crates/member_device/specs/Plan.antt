@@ -3,7 +3,7 @@ use Rattle.std.specs.Prelude.{◌≡◌, ℕ, ◌<◌, ◌≤◌, Bool, List, []
 use Rattle.ring_layout.specs.Layout.{LiesIn}
 use Rattle.ring_layout.specs.Chain.{available, writable_part, total_length, scattered, used_writes, written}
 use Rattle.ring_device.specs.Buffers.{LieIn}
-use Rattle.blk_engine.specs.Block.{disk_after}
+use Rattle.blk_engine.specs.Block.{stored, HasRoomAt}
 use Rattle.legacy_regs.specs.declared.interrupts.Irq.{Irq}
 use Rattle.legacy_regs.specs.Registers.{Registers}
 use Rattle.group_calls.specs.declared.member.MemberReply.TheVariants.{NotPending as Idle, Empty as Nothing, Halted as Halts, Dropped, Served}
@@ -40,8 +40,7 @@ planned d f q NotPending = stops Idle
 planned d f q Empty = stops Nothing
 planned d f q (Halted halt) = stops (Halts halt)
 planned d f q Drops = stops Dropped
-planned d f q (Answers p read_only request reply) =
-    service d.memory f q p.layout p.chain.parts reply (disk_after read_only d.disk request (total_length (writable_part p.chain.parts))) []
+planned d f q (Answers p put_at request reply) = service d.memory f q p.layout p.chain.parts reply (stored put_at request d.disk) []
 planned d f q (Receives p reply) = service d.memory f q p.layout p.chain.parts reply d.disk []
 planned d f q (Transmits p sent sent_again) = service d.memory f q p.layout p.chain.parts [] d.disk sent
 
@@ -56,10 +55,10 @@ pub record IsUsable (memory : List ℕ) (position : ℕ) (p : Place) (reply : Li
   pub place : IsPlace memory position p
   pub fits : length reply ≤ total_length (writable_part p.chain.parts)
 
--- the plan can be carried out: a block device has no frame that waits, the queue that receives has one, and the frame to be kept is the one to be told
+-- the plan can be carried out: a block device has no frame that waits, the disk has room for a request's data, the queue that receives has one, and the frame to be kept is the one to be told
 abbrev pub IsReady : Holdings → ℕ → ℕ → Plan → Type 0
 IsReady d q position Drops = 0 < length d.waiting
-IsReady d q position (Answers p read_only request reply) = IsUsable d.memory position p reply × (d.waiting ≡ [])
+IsReady d q position (Answers p put_at request reply) = IsUsable d.memory position p reply × (d.waiting ≡ []) × HasRoomAt put_at request d.disk
 IsReady d q position (Receives p reply) = IsUsable d.memory position p reply × (q ≡ 0) × (0 < length d.waiting)
 IsReady d q position (Transmits p sent sent_again) = IsPlace d.memory position p × ¬ (q ≡ 0) × (sent_again ≡ sent)
 IsReady d q position _ = Unit {0}

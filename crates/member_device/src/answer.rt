@@ -2,7 +2,7 @@
 ghost use Rattle.std.specs.Prelude.{◌≡◌, IfOk};
 
 use board_text::Bytes;
-use group_calls::{MemberReply, Why};
+use group_calls::{Halt, MemberReply, Why};
 use std::alloc::{AllocError as NoMemory, Global};
 
 /// A reply for the caller, and the same reply for the history: both are had before anything changes.
@@ -21,6 +21,50 @@ impl Answer {
         Answer {
             told: MemberReply::Refused(why),
             kept: MemberReply::Refused(why),
+        }
+    }
+
+    /// The queue has nothing to be worked at.
+    pub(crate) fn not_pending() -> Answer
+        ensures told { result.told ≡ MemberReply.NotPending }
+        ensures kept { result.kept ≡ result.told }
+    {
+        Answer {
+            told: MemberReply::NotPending,
+            kept: MemberReply::NotPending,
+        }
+    }
+
+    /// The queue has nothing to serve.
+    pub(crate) fn empty() -> Answer
+        ensures told { result.told ≡ MemberReply.Empty }
+        ensures kept { result.kept ≡ result.told }
+    {
+        Answer {
+            told: MemberReply::Empty,
+            kept: MemberReply::Empty,
+        }
+    }
+
+    /// The queue is halted.
+    pub(crate) fn halted(halt: Halt) -> Answer
+        ensures told { result.told ≡ MemberReply.Halted halt }
+        ensures kept { result.kept ≡ result.told }
+    {
+        Answer {
+            told: MemberReply::Halted(halt),
+            kept: MemberReply::Halted(halt),
+        }
+    }
+
+    /// The first frame that waits is dropped.
+    pub(crate) fn dropped() -> Answer
+        ensures told { result.told ≡ MemberReply.Dropped }
+        ensures kept { result.kept ≡ result.told }
+    {
+        Answer {
+            told: MemberReply::Dropped,
+            kept: MemberReply::Dropped,
         }
     }
 

@@ -9,7 +9,7 @@ ghost use Rattle.member_device.specs.Plan.{planned, IsPlace, IsReady};
 
 use crate::device::Device;
 use crate::plan::{Place, Plan};
-use blk_engine::BlkAnswer;
+use blk_engine::{BlkAnswer, BlkPlan};
 use board_text::Bytes;
 use group_calls::{Halt, Kind};
 use net_engine::transmit;
@@ -52,10 +52,13 @@ impl Device {
         let request = gather(self.alloc, &self.memory, &place.chain)?;
         let writable = place.chain.writable();
         let id = self.made.id;
-        match blk_engine::answer(self.alloc, &self.disk, id, read_only, &request, writable)? {
+        let BlkPlan { answer, put_at } = blk_engine::plan(
+            self.alloc, &self.disk, id, read_only, &request, writable,
+        )?;
+        match answer {
             BlkAnswer::Reply(reply) => Ok(Plan::Answers {
                 place,
-                read_only,
+                put_at,
                 request,
                 reply,
             }),

@@ -1,7 +1,7 @@
 //! What was planned is done. Nothing here takes memory.
 ghost use Rattle.std.specs.Prelude.{◌≡◌, ◌≤◌, Bool, if◌then◌else◌, length};
 ghost use Rattle.ring_layout.specs.Chain.{total_length, writable_part};
-ghost use Rattle.blk_engine.specs.Block.{disk_after};
+ghost use Rattle.blk_engine.specs.Block.{stored, HasRoomAt};
 ghost use Rattle.legacy_regs.specs.Interrupts.{queue_irq};
 ghost use Rattle.group_calls.specs.Steps.{interrupt, outcome_reply};
 ghost use Rattle.member_device.specs.Device.{left_by_step};
@@ -49,33 +49,21 @@ impl Device {
         ensures left { (pending : Bool) → self.new ≡ left_by_step queue (planned self.old (facts_of self.old position pending) queue plan) self.old }
     {
         match plan {
-            Plan::NotPending => Answer {
-                told: MemberReply::NotPending,
-                kept: MemberReply::NotPending,
-            },
-            Plan::Empty => Answer {
-                told: MemberReply::Empty,
-                kept: MemberReply::Empty,
-            },
-            Plan::Halted(halt) => Answer {
-                told: MemberReply::Halted(halt),
-                kept: MemberReply::Halted(halt),
-            },
+            Plan::NotPending => Answer::not_pending(),
+            Plan::Empty => Answer::empty(),
+            Plan::Halted(halt) => Answer::halted(halt),
             Plan::Drops => {
                 self.drop_first();
-                Answer {
-                    told: MemberReply::Dropped,
-                    kept: MemberReply::Dropped,
-                }
+                Answer::dropped()
             }
             Plan::Answers {
                 place,
-                read_only,
+                put_at,
                 request,
                 reply,
             } => {
                 let used = self.use_chain(position, queue, &place, &reply);
-                self.store(read_only, &request, place.chain.writable());
+                self.store(put_at, &request);
                 used.answer(Bytes::new(self.alloc), Bytes::new(self.alloc))
             }
             Plan::Receives { place, reply } => {
@@ -128,11 +116,12 @@ impl Device {
         length
     }
 
-    /// Puts on the disk what a request writes.
-    fn store(&mut self, read_only: bool, request: &Bytes, writable: u64)
-        ensures { self.new ≡ record self.old { disk = disk_after read_only self.old.disk request.now writable } }
+    /// Puts the data of a request onto the disk at this sector, or nowhere.
+    fn store(&mut self, put_at: Option<u64>, request: &Bytes)
+        requires { HasRoomAt put_at request.now self.old.disk }
+        ensures { self.new ≡ record self.old { disk = stored put_at request.now self.old.disk } }
     {
-        blk_engine::store(&mut self.disk, read_only, request, writable);
+        blk_engine::put(&mut self.disk, put_at, request);
     }
 
     /// Raises the queue's interrupt, where the guest wants one.

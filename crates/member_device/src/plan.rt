@@ -19,10 +19,10 @@ pub(crate) enum Plan {
     Halted(Halt),
     /// The first frame that waits is dropped.
     Drops,
-    /// A request of a block device is answered.
+    /// A request of a block device is answered, and its data goes onto the disk at this sector, or nowhere.
     Answers {
         place: Place,
-        read_only: bool,
+        put_at: Option<u64>,
         request: Bytes,
         reply: Bytes,
     },

@@ -1,5 +1,6 @@
 use Rattle.std.proofs.Common.{◌≡◌, ℕ, ◌<◌, List, [], length, ap, ◌∙◌}
 use Rattle.group_calls.specs.declared.member.MemberReply.TheVariants.{Served}
+use Rattle.blk_engine.specs.Block.{HasRoomAt}
 use Rattle.group_calls.specs.Steps.{service, outcome_reply}
 use Rattle.member_device.specs.Device.{Holdings, left_by_step}
 use Rattle.member_device.specs.Plan.{facts_of, IsPlace, IsUsable}
@@ -16,9 +17,9 @@ pub returns-in-Answers-clause-left : goal.returns-in-Answers-clause-left
 returns-in-Answers-clause-left c = λ pending.
     let d : Holdings = c.args.self.now in
     let used = c.use_chain-used in
-    let ready : IsUsable d.memory c.args.position c.in-Answers.place c.in-Answers.reply × (d.waiting ≡ []) = rw c.in-Answers.is at c.requires in
+    let ready : IsUsable d.memory c.args.position c.in-Answers.place c.in-Answers.reply × (d.waiting ≡ []) × HasRoomAt c.in-Answers.put_at c.in-Answers.request d.disk = rw c.in-Answers.is at c.requires in
     rw c.in-Answers.is (request_leaves d c.args.queue c.args.position c.in-Answers.place c.in-Answers.reply used.result.irq pending (used.ensures.irq pending) ready.0.place.head
-    used.new.self used.ensures.left c.store.new.self c.in-Answers.read_only c.in-Answers.request c.writable.result c.store.ensures c.writable.ensures.value ready.1)
+    used.new.self used.ensures.left c.store.new.self c.in-Answers.put_at c.in-Answers.request c.store.ensures ready.1)
 
 pub returns-in-Receives-clause-told : goal.returns-in-Receives-clause-told
 returns-in-Receives-clause-told c = λ pending.
