@@ -2,7 +2,21 @@
 use Rattle.std.specs.Prelude.{◌≡◌, ℕ, ◌-◌, ◌<◌, ◌≤◌, nat_lt, nat_le, ◌&&◌, Bool, false, List, length, slice_index, slice_index_or}
 use Rattle.history.specs.Limits.{history_limit}
 use Rattle.byte_fields.specs.Sizes.{guest_limit}
+use Rattle.admin_wire.specs.declared.command.Body.{Body}
+use Rattle.admin_wire.specs.declared.command.Body.TheVariants.{Use}
+use Rattle.group_calls.specs.declared.owner.OwnerReply.{OwnerReply}
+use Rattle.group_calls.specs.declared.owner.OwnerReply.TheVariants.{Used}
 use Rattle.group_calls.specs.Owner.{OwnerEntry, vf_count, list_in_use, refusal_floor, is_away, IsLegalOwner}
+
+-- the opcodes that a LIST_USE names, as bits
+abbrev pub list_asked : Body → ℕ
+list_asked (Use bits) = bits
+list_asked _ = 0
+
+-- the opcodes in use after a LIST_USE of these was answered, where those were in use
+abbrev pub in_use_by : ℕ → OwnerReply → ℕ → ℕ
+in_use_by bits Used in_use = bits
+in_use_by bits _ in_use = in_use
 
 -- the members of which something is kept: those that a group has at most
 abbrev pub is_near : ℕ → Bool

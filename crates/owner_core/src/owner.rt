@@ -1,19 +1,29 @@
 //! The owner.
-ghost use Rattle.std.specs.Prelude.{◌≡◌, ◌≤◌, ℕ, []};
+ghost use Rattle.std.specs.Prelude.{◌≡◌, ◌≤◌, ◌∷◌, ℕ, []};
 ghost use Rattle.history.specs.Legal.{never_quiet, never_spares};
 ghost use Rattle.admin_wire.specs.Numbers.{qualifier_number};
+ghost use Rattle.admin_wire.specs.Command.{list_of};
+ghost use Rattle.admin_wire.specs.declared.command.Body.TheVariants as Body;
 ghost use Rattle.group_calls.specs.Limits.{writable_limit};
-ghost use Rattle.group_calls.specs.Owner.{largest_opcode, is_used, is_away, refusal_floor, refused, verdict_on, verdict, owner_answer, owner_may};
+ghost use Rattle.group_calls.specs.Owner.{largest_opcode, list_in_use, is_used, is_away, refusal_floor, refused, verdict_on, verdict, owner_answer, owner_may};
+ghost use Rattle.owner_core.specs.Kept.{list_asked, in_use_by};
 
 use crate::looking::{away_found, floor_found};
-use crate::steps::{count_after, in_use_after, note_away, note_told, strays_after};
+use crate::steps::{count_after, note_away, note_told, strays_after};
 use admin_wire::{
-    Body, LEGACY_NOTIFY_INFO, LIST_USE, Qualifier, SR_IOV, Status, read_body, read_header,
+    Body, LEGACY_NOTIFY_INFO, LIST_USE, LegacyCmd, Qualifier, SR_IOV, Status, read_body,
+    read_header,
 };
 use board_text::{FLOOR_LIMIT, Piece};
 use group_calls::{Entry, HISTORY_LIMIT, Log, OwnerCall, OwnerReply, Placed, Serial};
 use std::alloc::{AllocError as NoMemory, Global};
 use std::marker::Model;
+
+// A verdict, and the opcodes that are in use after it, as bits.
+struct Judged {
+    reply: OwnerReply,
+    in_use: u64,
+}
 
 // The opcodes 0 to 6, as bits. Of this project.
 const SUPPORTED_LIST: u64 = 0x7f;
@@ -112,57 +122,88 @@ impl Owner {
         opcode <= LIST_USE || (self.in_use >> opcode) & 1 == 1
     }
 
-    // On what a command asks, where its group and its opcode are fine.
-    fn verdict_on(&self, member: u64, body: Body) -> OwnerReply
-        ensures { result ≡ verdict_on self.now.history member body }
+    // The list in use stays.
+    fn judged(&self, reply: OwnerReply) -> Judged
+        ensures reply { result.reply ≡ reply }
+        ensures in_use { result.in_use ≡ list_in_use self.now.history }
     {
-        match body {
-            Body::Query => OwnerReply::List {
-                bits: SUPPORTED_LIST,
-            },
-            Body::Use { bits } => {
-                if bits > SUPPORTED_LIST {
-                    self.refused(member, Qualifier::InvalidField)
-                } else {
-                    OwnerReply::Used
-                }
-            }
-            Body::Legacy(command) => {
-                if 0 < member && member <= u64::from(self.count) && !self.is_away(member) {
-                    OwnerReply::Legacy {
-                        member: member as u32,
-                        command,
-                    }
-                } else {
-                    self.refused(member, Qualifier::InvalidMember)
-                }
-            }
-            Body::Unknown => self.refused(member, Qualifier::InvalidOpcode),
+        Judged {
+            reply,
+            in_use: self.in_use,
         }
     }
 
-    fn verdict(&self, bytes: &Piece, writable: u32) -> OwnerReply
+    // On the opcodes of a LIST_USE.
+    fn verdict_on_list(&self, member: u64, bits: u64) -> Judged
+        ensures reply { result.reply ≡ verdict_on self.now.history member (Body.Use bits) }
+        ensures in_use { result.in_use ≡ in_use_by bits result.reply (list_in_use self.now.history) }
+    {
+        if bits > SUPPORTED_LIST {
+            return self.judged(self.refused(member, Qualifier::InvalidField));
+        }
+        Judged {
+            reply: OwnerReply::Used,
+            in_use: bits,
+        }
+    }
+
+    // On an access to the registers of a member.
+    fn verdict_on_access(&self, member: u64, command: LegacyCmd) -> OwnerReply
+        ensures { result ≡ verdict_on self.now.history member (Body.Legacy command) }
+    {
+        if 0 < member && member <= u64::from(self.count) && !self.is_away(member) {
+            OwnerReply::Legacy {
+                member: member as u32,
+                command,
+            }
+        } else {
+            self.refused(member, Qualifier::InvalidMember)
+        }
+    }
+
+    // On what a command asks, where its group and its opcode are fine.
+    fn verdict_on(&self, member: u64, body: Body) -> Judged
+        ensures reply { result.reply ≡ verdict_on self.now.history member body }
+        ensures in_use { result.in_use ≡ in_use_by (list_asked body) result.reply (list_in_use self.now.history) }
+    {
+        match body {
+            Body::Query => self.judged(OwnerReply::List {
+                bits: SUPPORTED_LIST,
+            }),
+            Body::Use { bits } => self.verdict_on_list(member, bits),
+            Body::Legacy(command) => self.judged(self.verdict_on_access(member, command)),
+            Body::Unknown => self.judged(self.refused(member, Qualifier::InvalidOpcode)),
+        }
+    }
+
+    fn verdict(&self, bytes: &Piece, writable: u32) -> Judged
         requires { writable ≤ writable_limit }
-        ensures { result ≡ verdict self.now.history bytes.now writable }
+        ensures reply { result.reply ≡ verdict self.now.history bytes.now writable }
+        ensures in_use { result.in_use ≡ in_use_by (list_of bytes.now) result.reply (list_in_use self.now.history) }
     {
         let command = read_header(bytes);
         if command.group_type != SR_IOV {
-            return self.refused(command.member, Qualifier::InvalidGroup);
+            return self.judged(self.refused(command.member, Qualifier::InvalidGroup));
         }
         if command.opcode > LEGACY_NOTIFY_INFO || !self.is_used(command.opcode) {
-            return self.refused(command.member, Qualifier::InvalidOpcode);
+            return self.judged(self.refused(command.member, Qualifier::InvalidOpcode));
         }
         self.verdict_on(command.member, read_body(&command, bytes, writable))
     }
 
     // What some actor may ask.
-    fn answer(&self, call: &OwnerCall) -> OwnerReply
+    fn answer(&self, call: &OwnerCall) -> Judged
         requires { (who : ℕ) × owner_may self.now.made who call.now }
-        ensures { result ≡ owner_answer self.now.history call.now }
+        ensures reply { result.reply ≡ owner_answer self.now.history call.now }
+        ensures in_use { (who : ℕ) → result.in_use ≡ list_in_use (record { who = who; call = call.now; reply = result.reply } ∷ self.now.history) }
     {
         match call {
             OwnerCall::Judge { bytes, writable } => self.verdict(bytes, *writable),
-            _ => OwnerReply::Done,
+            OwnerCall::Reset { floors: _ } => Judged {
+                reply: OwnerReply::Done,
+                in_use: 0,
+            },
+            _ => self.judged(OwnerReply::Done),
         }
     }
 }
@@ -191,14 +232,14 @@ impl Serial for Owner {
         if at >= HISTORY_LIMIT {
             return Err(NoMemory);
         }
-        let reply = self.answer(call);
+        let Judged { reply, in_use } = self.answer(call);
         self.log.push(Entry {
             who,
             call: call.copy(),
             reply: reply.copy(),
         })?;
         self.count = count_after(self.count, call);
-        self.in_use = in_use_after(self.in_use, call, &reply);
+        self.in_use = in_use;
         note_told(&mut self.told, call);
         note_away(&mut self.away, call);
         self.strays = strays_after(self.strays, call);

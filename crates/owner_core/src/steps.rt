@@ -3,12 +3,11 @@ ghost use Rattle.std.specs.Prelude.{◌≡◌, ◌-◌, ◌<◌, ◌≤◌, ◌�
 ghost use Rattle.board_text.specs.Floors.{number_for};
 ghost use Rattle.byte_fields.specs.Sizes.{guest_limit};
 ghost use Rattle.group_calls.specs.declared.owner.OwnerReply.{OwnerReply};
-ghost use Rattle.group_calls.specs.Owner.{OwnerEntry, vf_count, list_in_use};
+ghost use Rattle.group_calls.specs.Owner.{OwnerEntry, vf_count};
 ghost use Rattle.owner_core.specs.Kept.{AreFloors, AreAway, AreNear};
 
-use admin_wire::read_list;
 use board_text::{FLOOR_LIMIT, Floors};
-use group_calls::{OwnerCall, OwnerReply};
+use group_calls::OwnerCall;
 
 /// The number of virtual functions.
 pub(crate) fn count_after(count: u32, call: &OwnerCall) -> u32
@@ -18,20 +17,6 @@ pub(crate) fn count_after(count: u32, call: &OwnerCall) -> u32
         OwnerCall::SetVfs { count } => *count,
         OwnerCall::Reset { floors: _ } => 0,
         _ => count,
-    }
-}
-
-/// The opcodes in use, as bits.
-pub(crate) fn in_use_after(in_use: u64, call: &OwnerCall, reply: &OwnerReply) -> u64
-    ensures { (h : List OwnerEntry) (who : ℕ) → in_use ≡ list_in_use h → result ≡ list_in_use (record { who = who; call = call.now; reply = reply.now } ∷ h) }
-{
-    match call {
-        OwnerCall::Judge { bytes, writable: _ } => match reply {
-            OwnerReply::Used => read_list(bytes),
-            _ => in_use,
-        },
-        OwnerCall::Reset { floors: _ } => 0,
-        _ => in_use,
     }
 }
 

@@ -1,7 +1,7 @@
 use Rattle.std.proofs.Common.{◌∙◌, ◌∷◌, arith, refl, ap, sym, subst, List}
 use Rattle.group_calls.specs.declared.owner.OwnerReply.{OwnerReply}
 use Rattle.group_calls.specs.declared.owner.OwnerCall.{OwnerCall}
-use Rattle.group_calls.specs.Owner.{OwnerEntry, owner_answer, owner_may}
+use Rattle.group_calls.specs.Owner.{OwnerEntry, list_in_use, owner_answer, owner_may}
 use Rattle.owner_core.specs.Kept.{Keeps}
 use Rattle.owner_core.proofs.owner.OwnerSerial.apply.Goals as goal
 
@@ -11,17 +11,17 @@ invariant_of-self-2 c =
     let e = c.in_ok-push.ensures.ok
     ∙ ap (λ (q : OwnerCall). record { who = c.args.who; call = q; reply = c.copy-2.result } ∷ c.self.inside.log.entries) c.copy.ensures
     ∙ ap (λ (r : OwnerReply). record { who = c.args.who; call = c.args.call.now; reply = r } ∷ c.self.inside.log.entries) c.copy-2.ensures in
-    let is = c.answer-reply.ensures ∙ ap (λ v. owner_answer v.history c.args.call.now) (sym c.self.view_is) in
+    let is = c.answer-reply.ensures.reply ∙ ap (λ v. owner_answer v.history c.args.call.now) (sym c.self.view_is) in
     let may : owner_may c.self.inside.members c.args.who c.args.call.now = subst (λ v. owner_may v.made c.args.who c.args.call.now) (sym c.self.view_is) c.requires in
     let room = c.if-at-ge-HISTORY_LIMIT.false in
     let at = c.length-at.ensures in
-    subst (λ (es : List OwnerEntry). Keeps c.self.inside.members c.count_after-self-inside.result c.in_use_after-self-inside.result c.note_told.new.told c.note_away.new.away c.strays_after-self-inside.result es) (sym e)
+    subst (λ (es : List OwnerEntry). Keeps c.self.inside.members c.count_after-self-inside.result c.answer-reply.result.in_use c.note_told.new.told c.note_away.new.away c.strays_after-self-inside.result es) (sym e)
     record {
-      count_is = c.count_after-self-inside.ensures c.self.inside.log.entries c.args.who c.answer-reply.result k.count_is;
-      in_use_is = c.in_use_after-self-inside.ensures c.self.inside.log.entries c.args.who k.in_use_is;
-      told_are = c.note_told.ensures c.self.inside.log.entries c.args.who c.answer-reply.result k.told_are;
-      away_are = c.note_away.ensures c.self.inside.log.entries c.args.who c.answer-reply.result k.away_are;
-      strays_are = c.strays_after-self-inside.ensures c.self.inside.log.entries c.args.who c.answer-reply.result k.strays_are;
+      count_is = c.count_after-self-inside.ensures c.self.inside.log.entries c.args.who c.answer-reply.result.reply k.count_is;
+      in_use_is = c.answer-reply.ensures.in_use c.args.who ∙ ap (λ v. list_in_use (record { who = c.args.who; call = c.args.call.now; reply = c.answer-reply.result.reply } ∷ v.history)) (sym c.self.view_is);
+      told_are = c.note_told.ensures c.self.inside.log.entries c.args.who c.answer-reply.result.reply k.told_are;
+      away_are = c.note_away.ensures c.self.inside.log.entries c.args.who c.answer-reply.result.reply k.away_are;
+      strays_are = c.strays_after-self-inside.ensures c.self.inside.log.entries c.args.who c.answer-reply.result.reply k.strays_are;
       legal = (is, refl, may, k.legal);
       most = omega (arith, room, at);
     }
