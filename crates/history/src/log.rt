@@ -40,13 +40,6 @@ impl<Call, Reply> Log<Call, Reply> {
         self.entries.len() as u64
     }
 
-    /// How many entries fit without more memory, those that are there among them.
-    pub fn room(&self) -> u64
-        ensures { result ≡ self.now.room }
-    {
-        self.entries.capacity() as u64
-    }
-
     /// The entry at a place, counted from 0.
     pub fn entry(&self, at: u64) -> &Entry<Call, Reply>
         requires { at < length self.now.entries }
