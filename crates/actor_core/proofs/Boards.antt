@@ -1,5 +1,5 @@
 -- Where the board stands in its lines.
-use Rattle.std.proofs.Common.{◌≡◌, ℕ, ◌+◌, ◌-◌, ◌<◌, ◌≤◌, zero, suc, Bool, true, false, List, [], ◌∷◌, ◌++◌, length, map, drop, Option, None, Some, refl, sym, ap, ◌∙◌, subst, arith, add-one, length-append}
+use Rattle.std.proofs.Common.{◌≡◌, ℕ, ◌+◌, ◌-◌, ◌<◌, ◌≤◌, zero, suc, Bool, true, false, List, [], ◌∷◌, ◌++◌, length, map, drop, None, Some, refl, sym, ap, ◌∙◌, subst, arith, add-one, length-append}
 use Rattle.std.specs.Prelude.{flat_map, nat_le}
 use Rattle.std.specs.List.{slice_get}
 use Rattle.std.proofs.lemmas.Bool.Decides.{nat_tests}
@@ -7,7 +7,6 @@ use Rattle.std.proofs.lemmas.Option.{slice_get_past}
 use Rattle.legacy_regs.specs.Registers.{queue_count}
 use Rattle.board_script.specs.Script.{Whole}
 use Rattle.board_script.specs.declared.script.Setup.{Setup}
-use Rattle.legacy_regs.specs.declared.device.Kind.{Kind}
 use Rattle.journal.specs.Lines.{Line as JournalLine, counts_members, brings_up, empties, finishes, kind_of, made_by, numbers, first_lines, last_lines, finishing_lines, lines_of}
 use Rattle.actor_core.specs.declared.lines.Line.{Line}
 use Rattle.actor_core.specs.declared.lines.Line.TheVariants as line

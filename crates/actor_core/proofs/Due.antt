@@ -1,11 +1,10 @@
 -- The lines that an actor performs for now, and what comes next of them.
-use Rattle.std.proofs.Common.{◌≡◌, ℕ, ◌+◌, ◌<◌, ◌≤◌, ◌⊎◌, inl, inr, zero, suc, Bool, true, false, List, [], ◌∷◌, ◌++◌, length, map, drop, Option, None, Some, refl, sym, ap, ◌∙◌, subst, arith, length-append}
-use Rattle.std.proofs.lemmas.List.{drop-append-le}
+use Rattle.std.proofs.Common.{◌≡◌, ℕ, ◌+◌, ◌<◌, ◌≤◌, ◌⊎◌, inl, inr, zero, suc, Bool, true, false, List, [], ◌∷◌, ◌++◌, length, map, drop, Option, None, Some, refl, sym, ap, ◌∙◌, arith}
 use Rattle.std.proofs.lemmas.Bool.Decides.{nat_tests}
 use Rattle.std.specs.Prelude.{not, ◌||◌, nat_lt, is_none}
 use Rattle.group_calls.specs.declared.ask.Ask.{Ask}
 use Rattle.board_script.specs.Script.{Whole}
-use Rattle.journal.specs.Lines.{Line, counts_members, brings_up, lines_of, first_lines, last_lines, members_of, numbers}
+use Rattle.journal.specs.Lines.{Line, brings_up, lines_of, first_lines, last_lines, members_of, numbers}
 use Rattle.journal.specs.Performing.{Performed, next_ask}
 use Rattle.journal.specs.Settling.{has_ended, has_work}
 use Rattle.actor_core.specs.declared.actor.Actor.{Actor}
@@ -13,7 +12,7 @@ use Rattle.actor_core.specs.declared.lines.Lines.{Lines}
 use Rattle.actor_core.specs.declared.lines.Lines.TheVariants.{OfScript, OfBoard}
 use Rattle.actor_core.specs.Boards.{AreBegun, lines_now, lines_due}
 use Rattle.actor_core.specs.Stands.{ask_behind}
-use Rattle.actor_core.specs.Actors.{Upcoming, StandsWhole, begun, from_line, upcoming_in, upcoming}
+use Rattle.actor_core.specs.Actors.{StandsWhole, begun, from_line, upcoming_in, upcoming}
 use Rattle.actor_core.proofs.Upcoming.{by_ask, upcoming_is, line_comes_first}
 
 -- ---- of the other actors all lines are due

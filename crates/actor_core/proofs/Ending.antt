@@ -1,5 +1,5 @@
 -- What a guest is shown as its line ends.
-use Rattle.std.proofs.Common.{◌≡◌, ℕ, zero, suc, Bool, true, false, List, [], ◌∷◌, Option, None, Some, refl, sym, ap, ◌∙◌, subst, if◌then◌else◌}
+use Rattle.std.proofs.Common.{◌≡◌, ℕ, Bool, true, false, List, [], ◌∷◌, Option, None, Some, refl, sym, ap, ◌∙◌, if◌then◌else◌}
 use Rattle.std.specs.Prelude.{◌==◌, ◌&&◌, not, is_none, is_some, max, option_map}
 use Rattle.history.specs.Look.{or_else}
 use Rattle.legacy_regs.specs.declared.device.Kind.{Kind}
@@ -32,7 +32,7 @@ use Rattle.journal.specs.Answers.{driver_answer, answer_words, words_by}
 use Rattle.actor_core.specs.declared.outside.Outside.{Outside}
 use Rattle.actor_core.specs.declared.performer.Ending.TheVariants.{Answered}
 use Rattle.actor_core.specs.Tasks.{is_refused, is_loose}
-use Rattle.actor_core.specs.Performers.{driver_ending, ending_by}
+use Rattle.actor_core.specs.Performers.{ending_by}
 use Rattle.actor_core.specs.Shown.{host_words, driver_words, ending_text, text_where}
 use Rattle.actor_core.specs.Answered.{is_guests}
 use Rattle.actor_core.proofs.Drivers.{either, by_answer, goes_on, tried_again}

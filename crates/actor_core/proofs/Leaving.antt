@@ -1,5 +1,5 @@
 -- What a drain has left, behind one answer more.
-use Rattle.std.proofs.Common.{◌≡◌, ℕ, zero, suc, Bool, true, false, List, [], ◌∷◌, ◌++◌, map, Option, None, Some, refl, sym, ap, ◌∙◌, subst, if◌then◌else◌}
+use Rattle.std.proofs.Common.{◌≡◌, ℕ, zero, suc, Bool, true, false, List, [], ◌∷◌, ◌++◌, map, Option, None, Some, refl, sym, ap, ◌∙◌, if◌then◌else◌}
 use Rattle.std.proofs.lemmas.List.{map-append}
 use Rattle.std.specs.Prelude.{option_map}
 use Rattle.group_calls.specs.declared.ask.Ask.{Ask}
@@ -20,7 +20,7 @@ use Rattle.board_script.specs.declared.script.What.TheVariants as what
 use Rattle.board_script.specs.Script.{Whole}
 use Rattle.journal.specs.Lines.{Line, counts_members, brings_up, performs, empties as empties_line, finishes}
 use Rattle.journal.specs.Knowing.{knows}
-use Rattle.journal.specs.Doing.{Doing, asks, accesses, brings, serves, empties, hosts, steps, done, own_ask, raised, after, answered, access_goes_on, bring_goes_on, ends_steps, service_meanwhile}
+use Rattle.journal.specs.Doing.{Doing, asks, accesses, brings, serves, empties, hosts, steps, done, own_ask, raised, after, answered, access_goes_on, bring_goes_on, ends_steps}
 use Rattle.journal.specs.Performing.{Performed, all_asked, what_begins, begins, doing}
 use Rattle.journal.specs.Settling.{is_used_up, left_by}
 use Rattle.actor_core.specs.declared.items.LeftItem.{LeftItem}

@@ -1,6 +1,6 @@
 -- What a guest is shown, behind a line that begins and behind one answer more.
 use Rattle.std.proofs.Common.{◌≡◌, ℕ, ◌≤◌, zero, suc, Bool, true, false, List, [], ◌∷◌, ◌++◌, Option, None, Some, refl, sym, ap, ◌∙◌, subst, arith, append-nil, append_assoc, if◌then◌else◌}
-use Rattle.std.specs.Prelude.{◌==◌, filter, flat_map, is_none, option_map}
+use Rattle.std.specs.Prelude.{◌==◌, filter, is_none, option_map}
 use Rattle.std.specs.List.{slice_get}
 use Rattle.std.proofs.lemmas.Bool.Decides.{nat_tests}
 use Rattle.group_calls.specs.declared.ask.Ask.{Ask}
@@ -14,7 +14,6 @@ use Rattle.vfio_driver.specs.declared.access.Known.{Known}
 use Rattle.vfio_driver.specs.declared.access.After.{After}
 use Rattle.vfio_driver.specs.Access.{after as access_turned}
 use Rattle.guest_lines.specs.Lines.{outside_words}
-use Rattle.guest_lines.specs.Earlier.{numbered}
 use Rattle.board_script.specs.Bounds.{MayAsk}
 use Rattle.board_script.specs.declared.script.Setup.{Setup}
 use Rattle.board_script.specs.declared.script.ActorLine.{ActorLine}
@@ -23,11 +22,11 @@ use Rattle.board_script.specs.declared.script.What.TheVariants as what
 use Rattle.board_script.specs.Script.{Whole}
 use Rattle.journal.specs.Lines.{Line, counts_members, brings_up, performs, empties as empties_line, finishes, kind_of, lines_of, script_lines}
 use Rattle.journal.specs.Knowing.{knows}
-use Rattle.journal.specs.Doing.{Doing, asks, accesses, brings, serves, empties, hosts, steps, done, own_ask, raised, after, answered, access_goes_on}
+use Rattle.journal.specs.Doing.{Doing, asks, accesses, brings, serves, empties, hosts, steps, done, raised, after, answered, access_goes_on}
 use Rattle.journal.specs.Performing.{Performed, all_asked, io_before, what_begins, begins, doing, is_over}
 use Rattle.journal.specs.Answers.{line_words}
 use Rattle.journal.specs.Texts.{answer_line, answer_lines}
-use Rattle.journal.specs.Settling.{latest_doing, has_ended}
+use Rattle.journal.specs.Settling.{has_ended}
 use Rattle.actor_core.specs.declared.items.AnswerItem.{AnswerItem}
 use Rattle.actor_core.specs.declared.outside.Outside.{Outside}
 use Rattle.actor_core.specs.declared.performer.Performer.{Performer}
@@ -35,9 +34,9 @@ use Rattle.actor_core.specs.Kept.{number_of}
 use Rattle.actor_core.specs.Tasks.{is_loose}
 use Rattle.actor_core.specs.Performers.{known_by, now_doing, asks_next, ending_by}
 use Rattle.actor_core.specs.Stands.{Stands}
-use Rattle.actor_core.specs.Actors.{begun, and_asked}
+use Rattle.actor_core.specs.Actors.{begun}
 use Rattle.actor_core.specs.Shown.{answer_text, answers_text, host_words, ending_text, text_where}
-use Rattle.actor_core.specs.Answered.{IsGuestNumber, ended_of, IsOutside, is_guests}
+use Rattle.actor_core.specs.Answered.{ended_of, IsOutside, is_guests}
 use Rattle.actor_core.proofs.Unread.{asks_own}
 use Rattle.actor_core.specs.declared.lines.Line.{Line as CodeLine}
 use Rattle.actor_core.specs.declared.lines.Line.TheVariants as code

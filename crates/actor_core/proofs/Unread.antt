@@ -1,8 +1,6 @@
 -- The board makes no access, so that what it knows of itself isn't read.
-use Rattle.std.proofs.Common.{◌≡◌, ℕ, ◌≤◌, zero, suc, Bool, true, false, List, [], ◌∷◌, Option, None, Some, refl, sym, ap, ◌∙◌, arith, if◌then◌else◌}
-use Rattle.group_calls.specs.declared.ask.Ask.{Ask}
+use Rattle.std.proofs.Common.{◌≡◌, ℕ, ◌≤◌, zero, suc, Bool, true, false, List, refl, ap, ◌∙◌, arith, if◌then◌else◌}
 use Rattle.group_calls.specs.declared.ask.Told.{Told}
-use Rattle.serve_machine.specs.declared.stage.Stage.{Stage}
 use Rattle.serve_machine.specs.declared.stage.Stage.TheVariants.{Popping, Judging, Acting, Completing, Ended}
 use Rattle.vfio_driver.specs.declared.access.Known.{Known}
 use Rattle.vfio_driver.specs.declared.bring_stage.BringStage.{BringStage}
@@ -10,7 +8,7 @@ use Rattle.vfio_driver.specs.declared.bring_stage.BringStage.TheVariants.{Postin
 use Rattle.vfio_driver.specs.Bring.{after as bring_turned}
 use Rattle.board_script.specs.Script.{Whole}
 use Rattle.journal.specs.Knowing.{knows}
-use Rattle.journal.specs.Doing.{Doing, asks, accesses, brings, serves, empties, hosts, steps, done, own_ask, after, bring_goes_on, ends_steps, service_meanwhile}
+use Rattle.journal.specs.Doing.{Doing, asks, accesses, brings, serves, empties, hosts, steps, done, own_ask, after, bring_goes_on, ends_steps}
 use Rattle.journal.specs.Performing.{Performed, all_asked}
 use Rattle.journal.specs.Settling.{latest_doing}
 use Rattle.actor_core.specs.declared.performer.Performer.{Performer}

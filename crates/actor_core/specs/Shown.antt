@@ -1,5 +1,5 @@
 -- What is kept of a guest's answers, in words. Of this project.
-use Rattle.std.specs.Prelude.{ℕ, ◌%◌, Bool, true, false, List, [], ◌∷◌, ◌++◌, codes, flat_map, Option, None, Some}
+use Rattle.std.specs.Prelude.{ℕ, ◌%◌, Bool, true, false, List, [], ◌∷◌, codes, flat_map, Option, None, Some}
 use Rattle.hex.specs.Hex.{encode_lower}
 use Rattle.group_calls.specs.declared.ask.Told.{Told}
 use Rattle.vfio_driver.specs.declared.access.Answer.{Answer}

@@ -1,4 +1,4 @@
-use Rattle.std.proofs.Common.{sym, ap, ◌∙◌, arith, ◌≤◌, length, subst}
+use Rattle.std.proofs.Common.{arith, ◌≤◌, length}
 use Rattle.actor_core.proofs.Boards.{member_begins}
 use Rattle.actor_core.proofs.lines.finishing.Goals as goal
 

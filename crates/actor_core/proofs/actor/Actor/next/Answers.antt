@@ -1,7 +1,6 @@
-use Rattle.std.proofs.Common.{◌≡◌, ◌∷◌, List, sym, ap, ◌∙◌, subst}
+use Rattle.std.proofs.Common.{◌∷◌, List, sym, ap, ◌∙◌, subst}
 use Rattle.std.specs.Prelude.{IfSome}
 use Rattle.journal.specs.Lines.{Line}
-use Rattle.actor_core.specs.Boards.{lines_now}
 use Rattle.actor_core.specs.Stands.{IsNear}
 use Rattle.actor_core.specs.Actors.{begun, upcoming_in}
 use Rattle.actor_core.proofs.actor.Actor.next.Goals as goal

@@ -1,4 +1,4 @@
-use Rattle.std.proofs.Common.{◌≡◌, ℕ, sym, ap, ◌∙◌, subst}
+use Rattle.std.proofs.Common.{sym, ap, ◌∙◌, subst}
 use Rattle.std.specs.Prelude.{nat_le}
 use Rattle.actor_core.specs.declared.lines.Lines.{Lines}
 use Rattle.actor_core.specs.Boards.{AreBegun, lines_due}
