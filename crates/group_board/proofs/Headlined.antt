@@ -7,18 +7,14 @@ use Rattle.journal.specs.Journals.{IsLegalJournal}
 use Rattle.journal.specs.Worlds.{schedule}
 use Rattle.journal.specs.Settling.{final_of}
 use Rattle.world_laws.proofs.Counts.{schedule_short}
-use Rattle.world_laws.proofs.Short.{IsShortRun, short_run}
-use Rattle.world_laws.proofs.Finals.{final_so_far, final_well, legal_where_ended}
-use Rattle.world_laws.proofs.Ended.{all_ended}
+use Rattle.world_laws.proofs.Legal.{world_legal}
 use Rattle.answer_laws.proofs.Heading.{legal_headline}
 use Rattle.board_script.specs.declared.draft.Use.TheVariants.{Group}
 use Rattle.group_board.specs.Headline.{IsHeadlined, HasHeadline}
 
 pub headlined : (s : Whole) → IsScript s → IsHeadlined s (final_of s)
 headlined s script =
-    let short : IsShortRun s (schedule s) = short_run s (schedule s) script (schedule_short s script) in
-    let legal : IsLegalJournal s (final_of s) =
-    legal_where_ended s (final_of s) (final_so_far s script (schedule s) short) (all_ended s script (schedule s) short) (final_well s script (schedule s) short) in
+    let legal : IsLegalJournal s (final_of s) = (world_legal s (schedule s) script (schedule_short s script)).1 in
     record { run = refl; legal = legal; all = legal_headline s (final_of s) script legal }
 
 -- so a text that was read as a script has it
