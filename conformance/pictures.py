@@ -1,0 +1,251 @@
+#!/usr/bin/env python3
+"""The cases of tools/picture: pages of runs, their structure, and what a browser shows of them.
+
+    conformance/pictures.py [NAME..]
+
+The outputs are those of the examples, as conformance/cases has them, and one of tens of thousands of entries that
+conformance/reference.py makes. Where Chromium is there, it loads each page without a window, and what stands in the page
+then must be the run's entries; where it isn't, that is said in a line and not counted. The last line is 'N passed, M failed'.
+"""
+import json
+import os
+import re
+import shutil
+import subprocess
+import sys
+import tempfile
+
+import reference
+
+TOP = os.path.dirname(os.path.dirname(os.path.abspath(__file__)))
+TOOL = os.path.join(TOP, "tools", "picture")
+CASES = os.path.join(TOP, "conformance", "cases")
+STEPS = ["post", "pop", "judge", "act", "complete", "take"]
+SECONDS = 120
+ROWS_AT_FIRST = 100
+
+sys.path[:0] = [os.path.join(TOP, "tools"), os.path.join(TOP, "bench")]
+import boards
+import board_output
+import run_order
+
+
+def read(path):
+    with open(path, encoding="ascii") as file:
+        return file.read()
+
+
+def pictured(text):
+    """Status, page and standard error of tools/picture over an output."""
+    done = subprocess.run([sys.executable, TOOL], input=text.encode("ascii"), stdout=subprocess.PIPE,
+                          stderr=subprocess.PIPE, timeout=SECONDS)
+    return done.returncode, done.stdout.decode(), done.stderr.decode()
+
+
+def entries_of(text):
+    """The cell and the line of each entry, read anew."""
+    cell, found = None, []
+    for line in text.splitlines():
+        if re.fullmatch(r"guest \d+|owner|queue \d+|member \d+|end|left \d+ \d+", line):
+            cell = line
+        elif not cell.startswith("guest"):
+            found.append((cell, line))
+    return found
+
+
+def data_of(page):
+    return json.loads(re.search(r'<script id="run" type="application/json">(.*?)</script>', page, re.S).group(1))
+
+
+def way_fault(run, way):
+    """What is wrong with the way of a command, or None."""
+    calls = [run["entries"][at]["raw"].split(" ")[2] for at in way]
+    if calls != [it for it in STEPS if it in calls] or calls[0] != "post":
+        return f"a command's way is {calls}"
+    return None if way == sorted(way) else f"a command's way stands at {way}"
+
+
+def page_fault(text, page):
+    """What is wrong with the page of an output, or None."""
+    run = data_of(page)
+    shown = [(it["cell"], it["raw"]) for it in run["entries"]]
+    if sorted(shown) != sorted(entries_of(text)):
+        return f"{len(shown)} entries, and the output has {len(entries_of(text))}"
+    for cell in run["cells"]:
+        places = [it["place"] for it in run["entries"] if it["cell"] == cell]
+        if places != list(range(len(places))):
+            return f"{cell} isn't in its order"
+    if "http" in re.sub(r"http://www.w3.org/2000/svg", "", page):
+        return "something from elsewhere"
+    if "may have come in another order" not in page:
+        return "nothing on the order of entries"
+    ways = [it for it in (way_fault(run, way) for way in run["commands"]) if it]
+    return ways[0] if ways else None
+
+
+class Noted:
+    """The order in which a run of conformance/reference.py made its entries."""
+
+    def __init__(self, script):
+        self.made, ask = [], reference.Cell.ask
+
+        def noting(cell, who, call):
+            place, reply = ask(cell, who, call)
+            if len(cell.entries) > place:
+                self.made.append((cell, place))
+            return place, reply
+
+        reference.Cell.ask = noting
+        try:
+            self.board = reference.Board(reference.read_script(script))
+            self.board.run()
+        finally:
+            reference.Cell.ask = ask
+        self.text = "".join(it + "\n" for it in self.board.text())
+
+    def position(self):
+        board = self.board
+        names = {id(board.owner): "owner", **{id(it): f"queue {k}" for k, it in enumerate(board.queues)},
+                 **{id(it): f"member {m}" for m, it in enumerate(board.members, 1)}}
+        return {(names[id(cell)], place): at for at, (cell, place) in enumerate(self.made)}
+
+
+def order_fault(script):
+    """Whether the order that a run had breaks what the page takes as necessary, or None."""
+    run = Noted(script)
+    output = board_output.read_output(run.text)
+    order, position = run_order.Order(output, run_order.find_commands(output)), run.position()
+    for at, afters in enumerate(order.after):
+        first = order.entries[at]
+        for then in (order.entries[it] for it in afters):
+            if position[first.cell, first.place] > position[then.cell, then.place]:
+                return f"{first.name()} came after {then.name()}"
+    return None
+
+
+# ---- what a text that is no output is told
+
+def refusal_fault(text, words):
+    status, page, error = pictured(text)
+    if status != 1 or page or error.count("\n") != 1 or not error.startswith("picture: ") or words not in error:
+        return f"status {status}, {len(page)} bytes, {error!r}, expected {words!r}"
+    return None
+
+
+def refusals(text):
+    lines = text.splitlines(keepends=True)
+    post = next(at for at, it in enumerate(lines) if " post " in it)
+    changed = lambda old, new: text.replace(old, new, 1)
+    yield "empty", "", "empty"
+    yield "cut_off", "".join(lines[:-1]), "cut off"
+    yield "refusal_of_a_script", "bad line 3: actor\n", "refusal of a script"
+    yield "output_of_alone", "guest 1\n3 ok\nend\n", "no histories"
+    yield "output_of_admin", "done 0000000000000000\n", "'admin'"
+    yield "no_output_at_all", "hello\n", "line 1:"
+    yield "behind_the_end", text + "x\n", "behind 'end'"
+    yield "a_place_left_out", "".join(lines[:post] + lines[post + 1:]), f"line {post + 1}: place 1 of queue 0"
+    yield "an_unknown_call", changed(" pop ", " pup "), "is no call on a cell"
+    yield "an_unknown_reply", changed("-> list 127", "-> lost 127"), "is no reply"
+    yield "an_unknown_actor", changed(" board pop", " borat pop"), "is no actor"
+    yield "a_verdict_on_another_command", changed("judge 0000", "judge 0001"), "the owner judged a command"
+    yield "an_act_that_nobody_asked_for", changed("-> legacy 1", "-> refused 22 4 0"), "handed on to nobody"
+
+
+# ---- a browser
+
+def browser():
+    return next((it for it in ("chromium", "chromium-browser", "google-chrome", "chrome") if shutil.which(it)), None)
+
+
+def loaded(program, page, address):
+    """What stands in a page once its script has run."""
+    with tempfile.TemporaryDirectory() as folder:
+        path = os.path.join(folder, "page.html")
+        with open(path, "w", encoding="utf-8") as file:
+            file.write(page)
+        words = [program, "--headless", "--disable-gpu", f"--user-data-dir={folder}/profile", "--dump-dom", f"file://{path}{address}"]
+        if os.geteuid() == 0:
+            words.insert(1, "--no-sandbox")
+        return subprocess.run(words, stdout=subprocess.PIPE, stderr=subprocess.DEVNULL, timeout=SECONDS).stdout.decode()
+
+
+def shown_in(dom):
+    found = re.findall(r'<g class="entry[^"]*" data-number="(\d+)" data-cell="([^"]+)" data-place="(\d+)"', dom)
+    return [(cell, int(place)) for _, cell, place in found]
+
+
+def browser_fault(program, page):
+    run = data_of(page)
+    count = len(run["entries"])
+    whole = [(it["cell"], it["place"]) for it in run["entries"]]
+    dom = loaded(program, page, f"#rows={count}")
+    if count <= 1000 and shown_in(dom) != whole:
+        return f"{len(shown_in(dom))} entries are shown of {count}"
+    if run["entries"][0]["call"] not in dom:
+        return "the words of the first entry aren't shown"
+    last = run["entries"][-1]
+    dom = loaded(program, page, f"#entry={last['cell']} {last['place']}".replace(" ", "%20"))
+    begin = (count - 1) // ROWS_AT_FIRST * ROWS_AT_FIRST
+    if shown_in(dom) != whole[begin:]:
+        return f"the page of the last entry shows {len(shown_in(dom))} entries"
+    dom = loaded(program, page, f"#rows={count}&guest=1&queue=0&part=1")
+    passing = [(it["cell"], it["place"]) for it in run["entries"] if it["across"] or
+               it["phase"] == 1 and (not it["guests"] or 1 in it["guests"]) and (not it["queue"] or 0 in it["queue"])]
+    return None if shown_in(dom) == passing else f"filtered, {len(shown_in(dom))} entries are shown of {len(passing)}"
+
+
+# ---- the cases
+
+def scripts():
+    """Name and script of each run that is pictured."""
+    for case in sorted(os.listdir(CASES)):
+        folder = os.path.join(CASES, case)
+        if case.startswith("example_") and os.path.isfile(f"{folder}/words") and read(f"{folder}/words") == "step\n":
+            if os.path.isfile(f"{folder}/stdin.file"):
+                yield case, read(os.path.join(TOP, read(f"{folder}/stdin.file").strip()))
+            elif os.path.isfile(f"{folder}/stdin"):
+                yield case, read(f"{folder}/stdin")
+    yield "a_big_run", boards.register_accesses(1 << 16).decode("ascii")
+    yield "a_reset_in_an_access", "board 1 4 1\nguest 1 block 1 8\nguest 2 net 1 020000000002\ng1 in 18 1\ng2 in 18 1\nhost reset\ngo g1 1 w0 1 host 3\n"
+
+
+def cases():
+    program = browser()
+    if program is None:
+        print("conformance: there is no Chromium here, so no page is loaded in a browser", flush=True)
+    for name, script in scripts():
+        text = reference.answer("step", script)
+        status, page, error = pictured(text)
+        yield f"picture_{name}", lambda: page_fault(text, page) if status == 0 else error
+        yield f"picture_order_of_{name}", lambda: order_fault(script)
+        if program is not None:
+            yield f"picture_in_a_browser_{name}", lambda: browser_fault(program, page)
+    text = reference.answer("step", "board 1 4 0\nguest 1 block 1 8\ng1 in 12 2\n")
+    for name, given, words in refusals(text):
+        yield f"picture_refuses_{name}", lambda: refusal_fault(given, words)
+
+
+def faults(names=()):
+    """Each case with what is wrong, or None. With names, only cases whose name begins with one of them."""
+    if names and not any("picture".startswith(it[:7]) for it in names):
+        return
+    for name, fault_of in cases():
+        if name.startswith(tuple(names) or ""):
+            try:
+                yield name, fault_of()
+            except subprocess.TimeoutExpired:
+                yield name, f"no answer in {SECONDS} seconds"
+
+
+def main():
+    passed = failed = 0
+    for name, wrong in faults(sys.argv[1:]):
+        passed, failed = passed + (wrong is None), failed + (wrong is not None)
+        if wrong:
+            print(f"case {name}: {wrong}")
+    print(f"{passed} passed, {failed} failed")
+    return 1 if failed or not passed else 0
+
+
+if __name__ == "__main__":
+    sys.exit(main())
