@@ -26,8 +26,8 @@ READS = {"linux_block": LINUX, "firmware_block": FIRMWARE}
 
 # Boards: words, logs, and the answers that differ although the device is the same: the name of a disk has its guest's number.
 BOARDS = {
-    "linux_and_firmware": ("--queues 1 --size 8 --workers 2 --turns 5", ["linux_block", "firmware_block", "firmware_block"], []),
-    "four_drivers": ("--queues 2 --size 16 --workers 3 --turns 5", ["linux_block", "firmware_block", "linux_block", "firmware_block"], ["g3 peek 45056 20"]),
+    "linux_and_firmware": ("--queues 1 --size 8 --workers 2 --turns 3", ["linux_block", "firmware_block", "firmware_block"], []),
+    "four_drivers": ("--queues 2 --size 16 --workers 3 --turns 3", ["linux_block", "firmware_block", "linux_block", "firmware_block"], ["g3 peek 45056 20"]),
 }
 
 
