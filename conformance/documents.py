@@ -72,7 +72,7 @@ def faults(names=()):
     """Each case with what is wrong, or None. With names, only cases whose name begins with one of them."""
     documents = ["README.md", "examples/recorded/README.md", *(f"docs/{it}" for it in sorted(os.listdir(os.path.join(TOP, "docs"))) if it.endswith(".md"))]
     cases = [("documents_names_in_virtio", names_fault), ("documents_outputs_in_the_guide", guide_fault)]
-    cases += [(f"documents_links_of_{os.path.basename(it)[:-3]}", lambda it=it: link_fault(it)) for it in documents]
+    cases += [(f"documents_links_of_{it[:-3].replace('/', '_')}", lambda it=it: link_fault(it)) for it in documents]
     return [(name, fault_of()) for name, fault_of in cases if name.startswith(tuple(names) or "")]
 
 

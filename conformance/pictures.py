@@ -27,6 +27,7 @@ ROWS_AT_FIRST = 100
 sys.path[:0] = [os.path.join(TOP, "tools"), os.path.join(TOP, "bench")]
 import boards
 import board_output
+import run_lines
 import run_order
 
 
@@ -35,10 +36,14 @@ def read(path):
         return file.read()
 
 
-def pictured(text):
-    """Status, page and standard error of tools/picture over an output."""
-    done = subprocess.run([sys.executable, TOOL], input=text.encode("ascii"), stdout=subprocess.PIPE,
-                          stderr=subprocess.PIPE, timeout=SECONDS)
+def pictured(text, script=None):
+    """Status, page and standard error of tools/picture over an output, with its script or without."""
+    with tempfile.NamedTemporaryFile("w") as file:
+        file.write(script or "")
+        file.flush()
+        words = ["--script", file.name] if script is not None else []
+        done = subprocess.run([sys.executable, TOOL, *words], input=text.encode("ascii"), stdout=subprocess.PIPE,
+                              stderr=subprocess.PIPE, timeout=SECONDS)
     return done.returncode, done.stdout.decode(), done.stderr.decode()
 
 
@@ -60,9 +65,11 @@ def data_of(page):
 def way_fault(run, way):
     """What is wrong with the way of a command, or None."""
     calls = [run["entries"][at]["raw"].split(" ")[2] for at in way]
-    if calls != [it for it in STEPS if it in calls] or calls[0] != "post":
-        return f"a command's way is {calls}"
-    return None if way == sorted(way) else f"a command's way stands at {way}"
+    is_lost = any("-> lost" in run["entries"][at]["raw"] for at in way)
+    ordered = [it for it in STEPS if it in calls and not (is_lost and it == "take")]
+    if [it for it in calls if not (is_lost and it == "take")] != ordered or calls[0] != "post" or way != sorted(way):
+        return f"a command's way is {calls} at {way}"
+    return None
 
 
 def page_fault(text, page):
@@ -110,11 +117,13 @@ class Noted:
         return {(names[id(cell)], place): at for at, (cell, place) in enumerate(self.made)}
 
 
-def order_fault(script):
-    """Whether the order that a run had breaks what the page takes as necessary, or None."""
+def order_fault(script, with_lines):
+    """Whether the order that a run had breaks what the page takes as necessary, without the script or with it, or None."""
     run = Noted(script)
     output = board_output.read_output(run.text)
     order, position = run_order.Order(output, run_order.find_commands(output)), run.position()
+    if with_lines:
+        run_lines.give_lines(output, order, script)
     for at, afters in enumerate(order.after):
         first = order.entries[at]
         for then in (order.entries[it] for it in afters):
@@ -123,10 +132,28 @@ def order_fault(script):
     return None
 
 
+def lines_fault(text, script):
+    """Whether each line that makes calls on members or posts a command has its entries on the page, or None."""
+    status, page, error = pictured(text, script)
+    if status:
+        return error
+    run = data_of(page)
+    shown = {it["line"] for it in run["entries"]} - {None}
+    answers = {line: answer for found in run["answers"].values() for line, answer in found}
+    for number, line in enumerate(script.split("\n"), 1):
+        words = line.split(" ")
+        if not re.fullmatch(r"g\d+|w\d+|host", words[0]) or words[1] in ("io", "cfg", "serve"):
+            continue
+        is_silent = words[1] in ("in", "out") and (answers[number].startswith("full") or set(answers[number]) <= set("fok"))
+        if number not in shown and not is_silent:
+            return f"line {number} ({line}) is on no entry"
+    return None if all(run["lines"][str(it)] for it in shown) else "a line without its text"
+
+
 # ---- what a text that is no output is told
 
-def refusal_fault(text, words):
-    status, page, error = pictured(text)
+def refusal_fault(text, words, script=None):
+    status, page, error = pictured(text, script)
     if status != 1 or page or error.count("\n") != 1 or not error.startswith("picture: ") or words not in error:
         return f"status {status}, {len(page)} bytes, {error!r}, expected {words!r}"
     return None
@@ -194,6 +221,36 @@ def browser_fault(program, page):
     return None if shown_in(dom) == passing else f"filtered, {len(shown_in(dom))} entries are shown of {len(passing)}"
 
 
+def acted(program, page, action):
+    """The entries that are shown, and those that are marked, once an action in JavaScript was done."""
+    dom = loaded(program, page.replace("</body>", f"<script>{action}</script></body>"), "#rows=1000")
+    marked = re.findall(r'<g class="entry[^"]* way[^"]*" data-number="(\d+)"', dom)
+    return shown_in(dom), [int(it) for it in marked]
+
+
+def pointer_fault(program, page):
+    """The way of a command is marked as one where the pointer is on any part of it."""
+    run = data_of(page)
+    for way in (run["commands"][0], run["commands"][-1]):
+        for part in (way[0], way[-1]):
+            action = f"document.querySelector('.entry[data-number=\"{part}\"]').dispatchEvent(new MouseEvent('mouseenter'))"
+            marked = acted(program, page, action)[1]
+            if marked != way:
+                return f"with the pointer on {part} these are marked: {marked}, and the way is {way}"
+    return None
+
+
+def clicks_fault(program, page):
+    """Filters by click: guest 2 alone; and back."""
+    chip = "document.querySelector('[data-filter=\"guest 1\"]').click();"
+    run = data_of(page)
+    whole = [(it["cell"], it["place"]) for it in run["entries"]]
+    others = [(it["cell"], it["place"]) for it in run["entries"] if it["across"] or not it["guests"] or it["guests"] != [1]]
+    if acted(program, page, chip)[0] != others:
+        return "without guest 1 other entries are shown"
+    return None if acted(program, page, chip + chip)[0] == whole else "turned on again, not all entries are shown"
+
+
 # ---- the cases
 
 def scripts():
@@ -217,10 +274,17 @@ def cases():
         text = reference.answer("step", script)
         status, page, error = pictured(text)
         yield f"picture_{name}", lambda: page_fault(text, page) if status == 0 else error
-        yield f"picture_order_of_{name}", lambda: order_fault(script)
+        yield f"picture_order_of_{name}", lambda: order_fault(script, False)
+        yield f"picture_order_with_the_lines_of_{name}", lambda: order_fault(script, True)
+        yield f"picture_with_the_lines_of_{name}", lambda: lines_fault(text, script)
         if program is not None:
             yield f"picture_in_a_browser_{name}", lambda: browser_fault(program, page)
+        if program is not None and name == "example_two_guests":
+            yield f"picture_under_the_pointer_{name}", lambda: pointer_fault(program, page)
+            yield f"picture_after_clicks_{name}", lambda: clicks_fault(program, page)
     text = reference.answer("step", "board 1 4 0\nguest 1 block 1 8\ng1 in 12 2\n")
+    for name, script in (("another_script", "board 1 4 0\nguest 1 block 1 8\n\ng1 in 12 2\n"), ("another_line", "board 1 4 0\nguest 1 block 1 8\ng1 in 12 1\n")):
+        yield f"picture_refuses_{name}", lambda: refusal_fault(text, "the script isn't the one of this output", script)
     for name, given, words in refusals(text):
         yield f"picture_refuses_{name}", lambda: refusal_fault(given, words)
 

@@ -48,11 +48,12 @@ class Refused(Exception):
 
 
 class Entry:
-    """One call on one cell. Its command, and the owner's entry that a Kill belongs to, are found later."""
+    """One call on one cell. What else is known of it is found later: its command,
+    the owner's entry that a Kill belongs to, its line of the script."""
 
     def __init__(self, cell, place, who, call, reply, line):
         self.cell, self.place, self.who, self.call, self.reply, self.line = cell, place, who, call, reply, line
-        self.command, self.part_of = None, None
+        self.command, self.part_of, self.script_line = None, None, None
 
     def name(self):
         return f"{self.cell} {self.place}"

@@ -62,6 +62,11 @@ function drawAcross(svg, text, y, width, kind) {
   make(group, "text", { x: 6, y: y - 4 }, text);
 }
 
+const shortened = text => text.length > 60 ? `${text.slice(0, 58)}…` : text;
+
+// Whether an entry shows its line of the script: of a command the post alone does.
+const isMain = entry => entry.command === null || run.entries[run.commands[entry.command][0]] === entry;
+
 function drawEntry(svg, number, lanes, y, wordsAt, width) {
   const entry = run.entries[number], from = lanes.get(entry.who).x, to = lanes.get(entry.cell).x;
   const group = make(svg, "g", { class: `entry ${entry.tone}`, "data-number": number, "data-cell": entry.cell, "data-place": entry.place });
@@ -76,6 +81,7 @@ function drawEntry(svg, number, lanes, y, wordsAt, width) {
   const words = make(group, "text", { x: wordsAt, y: y + 4 });
   make(words, "tspan", {}, `${entry.call} `);
   make(words, "tspan", { class: "reply" }, `→ ${entry.reply}`);
+  if (entry.line && isMain(entry)) make(words, "tspan", { class: "small" }, `\u2003line ${entry.line}: ${shortened(run.lines[entry.line])}`);
   group.addEventListener("mouseenter", () => pinned === null && mark(number));
   group.addEventListener("mouseleave", () => pinned === null && mark(null));
   group.addEventListener("click", () => pin(pinned === number ? null : number));
@@ -149,6 +155,7 @@ function tell(number, way) {
     link.addEventListener("click", () => goTo(at));
     element(line, "span", `  ${entry.who}, ${entry.cell}: ${entry.call} → ${entry.reply}`);
     if (at === number) element(element(line, "div"), "code", `${entry.cell}: ${entry.raw}`);
+    if (at === number && entry.line) element(element(line, "div"), "code", `line ${entry.line} of the script: ${run.lines[entry.line]}`);
   }
 }
 
@@ -210,7 +217,7 @@ function makeAnswers() {
     element(element(list, "li"), "b", guest);
     for (const [line, answer] of answers) {
       const words = answer.length > 80 ? `${answer.slice(0, 64)}… (${answer.length / 2} bytes)` : answer;
-      element(element(list, "li"), "code", `${line} ${words}`);
+      element(element(list, "li"), "code", run.lines[line] ? `${line} ${shortened(run.lines[line])} → ${words}` : `${line} ${words}`);
     }
   }
   if (run.left.length) element(byId("answers"), "p", `The drain ended before these were at rest: ${run.left.join("; ")}`);

@@ -63,10 +63,11 @@ def entry_data(entry, order, number):
         "who": entry.who, "cell": entry.cell, "place": entry.place, "call": call, "reply": reply, "tone": tone,
         "command": number.get(id(entry.command)), "guests": guests_of(entry), "queue": queues_of(entry),
         "member": members_of(entry), "phase": phase_of(entry, order), "across": across_of(entry), "raw": entry.text(),
+        "line": entry.script_line,
     }
 
 
-def run_data(output, commands, order):
+def run_data(output, commands, order, lines):
     entries = order.sorted()
     position = {id(entry): at for at, entry in enumerate(entries)}
     number = {id(command): at for at, command in enumerate(commands)}
@@ -76,8 +77,8 @@ def run_data(output, commands, order):
         "actors": sorted({it.who for it in entries}, key=actor_rank), "cells": cells,
         "guests": [int(it.split()[1]) for it in output.answers], "queues": [int(it.split()[1]) for it in cells if it[0] == "q"],
         "phases": sorted({it["phase"] for it in data}), "entries": data,
-        "commands": [[position[id(it)] for it in command.steps()] for command in commands],
-        "answers": output.answers, "left": output.left,
+        "commands": [sorted(position[id(it)] for it in command.steps()) for command in commands],
+        "answers": output.answers, "left": output.left, "lines": lines,
     }
 
 
@@ -86,8 +87,8 @@ def template(name):
         return file.read()
 
 
-def page_of(output, commands, order, title):
-    data = json.dumps(run_data(output, commands, order), separators=(",", ":"), ensure_ascii=True)
+def page_of(output, commands, order, lines, title):
+    data = json.dumps(run_data(output, commands, order, lines), separators=(",", ":"), ensure_ascii=True)
     parts = {
         "TITLE": html.escape(f"{title}: {len(order.entries)} entries of {len(output.cells)} cells"),
         "RUN": data.replace("</", "<\\/"),

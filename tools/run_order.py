@@ -4,7 +4,7 @@ import heapq
 
 from board_output import Refused
 
-LIST_COMMANDS, INFO, SMALLEST = (0, 1), 6, 24
+LIST_COMMANDS, SMALLEST, WRITTEN_FROM, FIXED = (0, 1), 24, 32, 8
 
 
 class Command:
@@ -27,6 +27,12 @@ class Command:
     def service(self):
         """What its server did, in order."""
         return [it for it in (self.pop, self.judge, self.act, self.complete) if it]
+
+
+def access_bytes(command):
+    """Opcode, offset, bytes written and number of bytes read of a register access."""
+    offset = command.data[SMALLEST] if len(command.data) > SMALLEST else 0
+    return command.opcode, offset, command.data[WRITTEN_FROM:], max(0, command.writable - FIXED)
 
 
 def claim(command, step, entry):
@@ -121,13 +127,14 @@ class Order:
         for entries in output.cells.values():
             self.chain(entries)
         for command in commands:
-            self.chain(command.steps())
+            self.chain([command.post, *command.service()])
+            self.put(command.post, command.take)
         for services in self.services.values():
             self.chain([entry for it in services for entry in it.service()])
         self.order_the_board()
         self.order_the_host()
         for name in output.answers:
-            self.order_a_guest(name.split()[1])
+            self.order_a_guest(int(name.split()[1]))
 
     def put(self, first, then):
         if first is not None and then is not None and first is not then:
@@ -179,20 +186,31 @@ class Order:
             self.chain(line)
             last = line[-1]
 
-    def order_a_guest(self, number):
-        """A guest makes one access at a time, and a posted command's floor tells which of its other calls came before."""
+    def chain_of_guest(self, number):
+        """A guest's own calls and commands, one after the other: it makes one access at a time, and a posted command's floor
+        tells which of its calls came before."""
         who = f"g{number}"
         own = sorted((it for it in self.commands if it.post.who == who), key=lambda it: it.floor)
         direct = [it for it in self.output.cells[f"member {number}"] if it.who == who and it.call[0] != "act"]
-        line, at, before, starts = [], 0, None, {}
+        chain, at = [], 0
         for command in own:
             while at < len(direct) and direct[at].place < command.floor:
-                line.append(direct[at])
+                chain.append(direct[at])
                 at += 1
-            starts[id(command)] = line[-1] if line else None
-            line += [it for it in (command.post, command.take) if it]
-        self.chain(line + direct[at:])
-        self.order_services_in_accesses(who, own, starts)
+            chain.append(command)
+        return chain + direct[at:]
+
+    def order_a_guest(self, number):
+        line, own, starts = [], [], {}
+        for it in self.chain_of_guest(number):
+            if isinstance(it, Command):
+                own.append(it)
+                starts[id(it)] = line[-1] if line else None
+                line += [entry for entry in (it.post, it.take) if entry]
+            else:
+                line.append(it)
+        self.chain(line)
+        self.order_services_in_accesses(f"g{number}", own, starts)
 
     def order_services_in_accesses(self, who, own, starts):
         """What a guest serves, it serves between the start of an access over that queue and the Take that ends it."""
