@@ -135,6 +135,13 @@ def others():
     """Refusals that aren't of one log's text."""
     mixed = made_of(f"{NET}frame {FRAME}\n", "--workers", "1")
     yield "record_refuses_a_frame_beside_workers", None if mixed[0] == 1 and "line 2: 'frame' comes at its moment only where" in mixed[2] else str(mixed)
+    with tempfile.NamedTemporaryFile("w") as output:
+        output.write("guest 1\n3 ok\nend\n")
+        output.flush()
+        other = recorded("--compare", output.name, "own_driver.accesses", folder=os.path.join(TOP, "examples"))
+    yield "record_refuses_another_output", None if other[0] == 1 and "is no output of the script that these words make" in other[2] else str(other)
+    turns = recorded("--turns", "0", "linux_block.accesses")
+    yield "record_refuses_no_turns", None if turns[0] == 2 and "'0' is no number from 1 to 1000" in turns[2] else str(turns)
     missing = recorded("there_is_none")
     yield "record_without_the_file", None if missing[0] == 4 and missing[2] == "record: there_is_none: No such file or directory\n" else str(missing)
     sized = made_of(f"{BLOCK}r 12 2 = 0001\n")
