@@ -11,6 +11,8 @@ import os
 import re
 import sys
 
+import reference
+
 TOP = os.path.dirname(os.path.dirname(os.path.abspath(__file__)))
 
 
@@ -68,10 +70,22 @@ def guide_fault():
     return None
 
 
+def first_script_fault():
+    """What the guide shows of its first script is what that script prints, before and after more lines were put behind it."""
+    part = read("docs", "guide.md").split("## My driver hangs")[0]
+    blocks = re.findall(r"```text\n(.*?)```", part, re.S)
+    scripts = [it for it in blocks if re.match(r"board |g1 ", it)]
+    outputs = "".join(reference.answer("step", "".join(scripts[:count])) for count in range(1, len(scripts) + 1)).splitlines()
+    shown = [line for it in blocks if it not in scripts for line in it.splitlines() if line[0].isdigit()]
+    missing = [line for line in shown if line not in outputs]
+    return f"docs/guide.md: '{missing[0]}' is no line of its first script's output" if missing or not shown else None
+
+
 def faults(names=()):
     """Each case with what is wrong, or None. With names, only cases whose name begins with one of them."""
     documents = ["README.md", "examples/recorded/README.md", *(f"docs/{it}" for it in sorted(os.listdir(os.path.join(TOP, "docs"))) if it.endswith(".md"))]
-    cases = [("documents_names_in_virtio", names_fault), ("documents_outputs_in_the_guide", guide_fault)]
+    cases = [("documents_names_in_virtio", names_fault), ("documents_outputs_in_the_guide", guide_fault),
+             ("documents_first_script_of_the_guide", first_script_fault)]
     cases += [(f"documents_links_of_{it[:-3].replace('/', '_')}", lambda it=it: link_fault(it)) for it in documents]
     return [(name, fault_of()) for name, fault_of in cases if name.startswith(tuple(names) or "")]
 

@@ -90,7 +90,7 @@ def template(name):
 def page_of(output, commands, order, lines, title):
     data = json.dumps(run_data(output, commands, order, lines), separators=(",", ":"), ensure_ascii=True)
     parts = {
-        "TITLE": html.escape(f"{title}: {len(order.entries)} entries of {len(output.cells)} cells"),
+        "TITLE": html.escape(f"{title}: {len(order.entries)} entries, {len(output.cells)} cells"),
         "RUN": data.replace("</", "<\\/"),
         "SCRIPT": template("picture.js").strip(),
     }
