@@ -271,6 +271,21 @@ def scripts():
     yield "a_reset_in_an_access", "board 1 4 1\nguest 1 block 1 8\nguest 2 net 1 020000000002\ng1 in 18 1\ng2 in 18 1\nhost reset\ngo g1 1 w0 1 host 3\n"
 
 
+# What a page says of memory in rings, by the place in member 1's history, of the script with a wrong index.
+RINGS = {
+    4: "", 5: "queue 0, descriptor 0: 16 at 12288, then 1; descriptor 1: 21 at 12800, WRITE",
+    6: "queue 0, available ring: flags 0, idx 256, entry 0: head 0", 11: "queue 0, available ring: idx 1",
+    15: "queue 0, used ring: flags 0, idx 0", 20: "queue 0, used ring: flags 0, idx 1", 21: "",
+}
+
+
+def rings_fault():
+    script = read(os.path.join(TOP, "examples", "hang_wrong_index.script"))
+    run = data_of(pictured(reference.answer("step", script))[1])
+    said = {it["place"]: it["ring"] for it in run["entries"] if it["cell"] == "member 1" and it["place"] in RINGS}
+    return None if said == RINGS else f"{said}"
+
+
 def cases():
     program = browser()
     if program is None:
@@ -289,6 +304,7 @@ def cases():
         if program is not None and name == "example_two_guests":
             yield f"picture_under_the_pointer_{name}", lambda: pointer_fault(program, page)
             yield f"picture_after_clicks_{name}", lambda: clicks_fault(program, page)
+    yield "picture_says_what_stands_in_rings", rings_fault
     text = reference.answer("step", "board 1 4 0\nguest 1 block 1 8\ng1 in 12 2\n")
     for name, script in (("another_script", "board 1 4 0\nguest 1 block 1 8\n\ng1 in 12 2\n"), ("another_line", "board 1 4 0\nguest 1 block 1 8\ng1 in 12 1\n")):
         yield f"picture_refuses_{name}", lambda: refusal_fault(text, "the script isn't the one of this output", script)

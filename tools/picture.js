@@ -1,6 +1,6 @@
 "use strict";
 const run = JSON.parse(document.getElementById("run").textContent);
-const LEFT = 56, ROW = 24, HEAD = 34, WORDS = 900, MANY = 14, BELOW = 200, NAMESPACE = "http://www.w3.org/2000/svg";
+const LEFT = 56, ROW = 24, HEAD = 34, WORDS = 1250, MANY = 14, BELOW = 200, NAMESPACE = "http://www.w3.org/2000/svg";
 const byId = name => document.getElementById(name);
 
 // What is shown: the filters that are off, the entries that pass them, and which of these stand first.
@@ -62,7 +62,7 @@ function drawAcross(svg, text, y, width, kind) {
   make(group, "text", { x: 6, y: y - 4 }, text);
 }
 
-const shortened = text => text.length > 60 ? `${text.slice(0, 58)}…` : text;
+const shortened = (text, most = 60) => text.length > most ? `${text.slice(0, most - 2)}…` : text;
 
 // Whether an entry shows its line of the script: of a command the post alone does.
 const isMain = entry => entry.command === null || run.entries[run.commands[entry.command][0]] === entry;
@@ -81,6 +81,7 @@ function drawEntry(svg, number, lanes, y, wordsAt, width) {
   const words = make(group, "text", { x: wordsAt, y: y + 4 });
   make(words, "tspan", {}, `${entry.call} `);
   make(words, "tspan", { class: "reply" }, `→ ${entry.reply}`);
+  if (entry.ring) make(words, "tspan", { class: "ring" }, `\u2003${shortened(entry.ring, 90)}`);
   if (entry.line && isMain(entry)) make(words, "tspan", { class: "small" }, `\u2003line ${entry.line}: ${shortened(run.lines[entry.line])}`);
   group.addEventListener("mouseenter", () => pinned === null && mark(number));
   group.addEventListener("mouseleave", () => pinned === null && mark(null));
@@ -155,6 +156,7 @@ function tell(number, way) {
     link.addEventListener("click", () => goTo(at));
     element(line, "span", `  ${entry.who}, ${entry.cell}: ${entry.call} → ${entry.reply}`);
     if (at === number) element(element(line, "div"), "code", `${entry.cell}: ${entry.raw}`);
+    if (at === number && entry.ring) element(element(line, "div"), "span", entry.ring);
     if (at === number && entry.line) element(element(line, "div"), "code", `line ${entry.line} of the script: ${run.lines[entry.line]}`);
   }
 }

@@ -4,6 +4,7 @@ import json
 import os
 import re
 
+from ring_words import ring_words
 from run_words import words_of
 
 HERE = os.path.dirname(os.path.abspath(__file__))
@@ -57,13 +58,13 @@ def phase_of(entry, order):
     return BRING_UP if id(entry) in order.in_bring_up else DRAIN if id(entry) in order.in_drain else LINES
 
 
-def entry_data(entry, order, number):
+def entry_data(entry, order, number, rings):
     call, reply, tone = words_of(entry)
     return {
         "who": entry.who, "cell": entry.cell, "place": entry.place, "call": call, "reply": reply, "tone": tone,
         "command": number.get(id(entry.command)), "guests": guests_of(entry), "queue": queues_of(entry),
         "member": members_of(entry), "phase": phase_of(entry, order), "across": across_of(entry), "raw": entry.text(),
-        "line": entry.script_line,
+        "line": entry.script_line, "ring": rings.get(id(entry), ""),
     }
 
 
@@ -71,7 +72,8 @@ def run_data(output, commands, order, lines):
     entries = order.sorted()
     position = {id(entry): at for at, entry in enumerate(entries)}
     number = {id(command): at for at, command in enumerate(commands)}
-    data = [entry_data(it, order, number) for it in entries]
+    rings = ring_words(output)
+    data = [entry_data(it, order, number, rings) for it in entries]
     cells = sorted(output.cells, key=cell_rank)
     return {
         "actors": sorted({it.who for it in entries}, key=actor_rank), "cells": cells,
