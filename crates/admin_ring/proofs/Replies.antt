@@ -7,7 +7,7 @@ use Rattle.board_text.specs.Floors.{number_for}
 use Rattle.group_calls.specs.declared.queue.RingReply.TheVariants.{Lost, InService}
 use Rattle.group_calls.specs.Queue.{RingEntry, Posted, posted, is_fetched, completion, is_taken, is_closed, is_old, latest_floors, command, earliest, in_service, take_answer, take_posted, pop_answer, IsNumbered}
 use Rattle.group_calls.proofs.Numbers.{earliest_passes, earliest_alike, earliest_none, earliest_from, earliest_there, earliest_past}
-use Rattle.admin_ring.specs.declared.table.Slot.{Slot}
+use Rattle.admin_ring.specs.Slots.{Slot}
 use Rattle.admin_ring.specs.Kept.{slot_with, slot_if, slot_of, slot_of_command, Holds, AreCounts, taken_answer, fetched_answer}
 
 if_seq : (h : List RingEntry) (p : Posted) (x : Slot) → slot_if h p ≡ Some x → (b : Bool) → is_taken h p.seq ≡ b → x.seq ≡ p.seq

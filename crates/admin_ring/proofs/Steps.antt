@@ -11,7 +11,7 @@ use Rattle.history.specs.Look.{or_else}
 use Rattle.group_calls.specs.Queue.{RingEntry, Posted, posted, completion, is_taken, command, outstanding, is_outstanding}
 use Rattle.group_calls.proofs.Numbers.{earliest_passes, earliest_past, one_less}
 use Rattle.group_calls.proofs.Outstanding.{outstanding_take}
-use Rattle.admin_ring.specs.declared.table.Slot.{Slot}
+use Rattle.admin_ring.specs.Slots.{Slot}
 use Rattle.admin_ring.specs.Finding.{completed}
 use Rattle.admin_ring.specs.Kept.{slot_with, slot_if, slot_of, slot_of_command, Holds, AreCounts}
 

@@ -1,18 +1,21 @@
--- What the queue keeps, as equations over its history. The code's own.
-use Rattle.std.specs.Prelude.{◌≡◌, ℕ, ◌+◌, ◌-◌, ◌≤◌, ◌/◌, nat_lt, false, List, [], length, Option, Some, None, is_some, unwrap_or, if◌then◌else◌}
-use Rattle.slab.specs.Slab.{Slab, get, slab_len}
+-- What the queue keeps of its history: the numbers of its commands and what is outstanding. Of this project.
+use Rattle.std.specs.Prelude.{◌≡◌, ◌≢◌, ℕ, ◌+◌, ◌-◌, ◌≤◌, nat_lt, false, List, [], length, Option, Some, None, is_some, unwrap_or, take, if◌then◌else◌}
 use Rattle.history.specs.Legal.{IsLegal}
 use Rattle.history.specs.Kept.{Kept}
 use Rattle.history.specs.Limits.{history_limit}
-use Rattle.std.specs.Prelude.{take}
 use Rattle.board_text.specs.Floors.{number_for}
 use Rattle.group_calls.specs.declared.queue.RingReply.{RingReply}
 use Rattle.group_calls.specs.declared.queue.RingReply.TheVariants.{Stale, Ready, Lost, NotYet, Empty, Fetched}
-use Rattle.group_calls.specs.Queue.{RingEntry, Posted, posted, is_fetched, completion, is_taken, is_closed, latest_floors, outstanding, command, IsNumbered, IsQueueSize, queue_answer, queue_may, is_quiet_reply}
-use Rattle.admin_ring.specs.declared.table.Slot.{Slot}
+use Rattle.group_calls.specs.Queue.{RingEntry, Posted, posted, is_fetched, completion, is_taken, is_closed, latest_floors, outstanding, command, IsNumbered, queue_answer, queue_may, is_quiet_reply}
+use Rattle.admin_ring.specs.Slots.{Slot}
+
+-- as many of a completion's bytes as are writable
+abbrev pub kept_bytes : ℕ → Option (List ℕ × ℕ) → Option (List ℕ × ℕ)
+kept_bytes writable None = None
+kept_bytes writable (Some c) = Some (take writable c.0, c.1)
 
 abbrev pub slot_with : List RingEntry → Posted → Slot
-slot_with h p = record { seq = p.seq; bytes = p.bytes; writable = p.writable; tag = p.tag; completion = completion h p.seq }
+slot_with h p = record { seq = p.seq; bytes = p.bytes; writable = p.writable; tag = p.tag; completion = kept_bytes p.writable (completion h p.seq) }
 
 abbrev pub slot_if : List RingEntry → Posted → Option Slot
 slot_if h p = if is_taken h p.seq then None else Some (slot_with h p)
@@ -28,7 +31,7 @@ slot_of h s = slot_of_command h (command h s)
 -- the answer to a Take of what is outstanding
 abbrev pub taken_answer : Option (List ℕ) → Option Slot → RingReply
 taken_answer floors None = Stale
-taken_answer floors (Some x) = elim x.completion [ Some c ↦ Ready (take x.writable c.0) c.1 | None ↦ elim floors [ Some told ↦ Lost (number_for x.tag.guest told) | None ↦ NotYet ] ]
+taken_answer floors (Some x) = elim x.completion [ Some c ↦ Ready c.0 c.1 | None ↦ elim floors [ Some told ↦ Lost (number_for x.tag.guest told) | None ↦ NotYet ] ]
 
 -- the answer to a Pop over the next command
 abbrev pub fetched_answer : Option Slot → RingReply
@@ -40,6 +43,11 @@ pub record Holds (at : ℕ → Option Slot) (of : ℕ → Option Slot) : Type 0 
   pub sound : (key : ℕ) (x : Slot) → at key ≡ Some x → of x.seq ≡ Some x
   pub complete : (s : ℕ) (x : Slot) → of s ≡ Some x → (key : ℕ) × (at key ≡ Some x)
   pub distinct : (key other : ℕ) (x y : Slot) → at key ≡ Some x → at other ≡ Some y → x.seq ≡ y.seq → key ≡ other
+
+-- the slots after a change at one key
+pub record Changes (at now : ℕ → Option Slot) (key : ℕ) (slot : Option Slot) : Type 0 where
+  pub changed : now key ≡ slot
+  pub others : (other : ℕ) → other ≢ key → now other ≡ at other
 
 -- the numbers that were posted, fetched and completed, and the floors of the latest Reset
 pub record AreCounts (n f d : ℕ) (floors : Option (List ℕ)) (h : List RingEntry) : Type 0 where
@@ -60,12 +68,11 @@ pub record AreCounts (n f d : ℕ) (floors : Option (List ℕ)) (h : List RingEn
 abbrev pub owed : ℕ → ℕ → ℕ → ℕ → ℕ
 owed n f d held = (n - f) + (n - d) + held
 
-pub record Keeps (size n f d : ℕ) (floors : Option (List ℕ)) (table : Slab Slot) (log : Kept RingEntry) : Type 0 where
+-- the counts and the slots are those of the history, which is legal, and there is room for what the commands may leave
+pub record Keeps (size n f d : ℕ) (floors : Option (List ℕ)) (at : ℕ → Option Slot) (held : ℕ) (log : Kept RingEntry) : Type 0 where
   pub counts : AreCounts n f d floors log.entries
-  pub holds : Holds (get table) (slot_of log.entries)
-  pub held : slab_len table ≡ length (outstanding log.entries)
-  pub size_is : IsQueueSize size
-  pub fits : size / 2 ≤ table.capacity
+  pub holds : Holds at (slot_of log.entries)
+  pub count : held ≡ length (outstanding log.entries)
   pub legal : IsLegal (queue_answer size) is_quiet_reply (queue_may size) log.entries
-  pub most : length log.entries + owed n f d (slab_len table) ≤ history_limit
-  pub reserved : length log.entries + owed n f d (slab_len table) ≤ log.room
+  pub most : length log.entries + owed n f d held ≤ history_limit
+  pub reserved : length log.entries + owed n f d held ≤ log.room

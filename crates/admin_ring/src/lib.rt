@@ -2,9 +2,11 @@
 //! of actors.
 //!
 //! It stands on `group_calls`, whose definitions say every answer by looking back through the queue's history, on
-//! `history` for the history itself, and on `slab` for the commands that are outstanding. Its main clause is that of
-//! `Serial::apply` for `AdminRing`: each reply is the definition over what stood before it. Post takes the memory that
-//! the later Pop, Complete and Take of its command need, so these never want any. No call walks the history.
+//! `history` for the history itself, on `ring_driver` and `ring_device` for the two halves of its split ring in the host's
+//! memory, and on `slab` for the notes of the commands that are outstanding. Its main clause is that of `Serial::apply`
+//! for `AdminRing`: each reply is the definition over what stood before it. `specs/Bytes.antt` says how the bytes of the
+//! ring and of the slots belong to the history: that is the invariant of the type. Post takes the memory that the later
+//! Pop, Complete and Take of its command need, so these never want any. No call walks the history.
 #![tactic(auto)]
 
 pub mod laws;

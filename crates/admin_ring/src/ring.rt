@@ -6,19 +6,43 @@ ghost use Rattle.history.specs.Legal.{IsAnswered};
 ghost use Rattle.history.specs.Limits.{history_limit, actor_limit};
 ghost use Rattle.group_calls.specs.Limits.{writable_limit};
 ghost use Rattle.group_calls.specs.Queue.{IsQueueSize, pop_answer, take_answer, queue_answer, queue_may, queue_spares, is_quiet_reply};
-ghost use Rattle.std.specs.Prelude.{option_copied, Some};
-ghost use Rattle.admin_ring.specs.Kept.{slot_of, taken_answer, fetched_answer, owed};
+ghost use Rattle.byte_fields.specs.Places.{bytes_at};
+ghost use Rattle.admin_ring.specs.Kept.{owed};
 ghost use Rattle.slab.specs.Slab.{slab_len};
 
-use crate::table::{Slot, complete, find};
+use crate::table::{Note, answer, find};
 use board_text::{Floors, Piece};
 use group_calls::{Entry, HISTORY_LIMIT, Log, Placed, RingCall, RingReply, Serial, Tag};
+use guest_mem::{GuestMem, PAGE_SIZE};
+use ring_device::{PairFound, next_pair, put_used};
+use ring_driver::{RingDriver, Span, TakenUsed};
+use ring_layout::{Layout, legacy, read_descriptor};
 use slab::Slab;
 use std::alloc::{AllocError as NoMemory, Global};
 use std::marker::Model;
 
+// A slot has 512 bytes: its first half is for the command, its second for the answer.
+const SLOT_SIZE: u64 = 512;
+
+const HALF_SLOT: u64 = 256;
+
+// The index of either ring runs modulo this (VIRTIO 1.3, 2.7.6 and 2.7.8).
+const INDEX_MODULUS: u64 = 65_536;
+
+// The largest memory that a ring lies in.
+const MEMORY_LIMIT: u64 = 262_144;
+
+/// The chain that the device serves: its head, and its buffer for the answer.
+#[derive(Clone, Copy, Debug, PartialEq, Eq)]
+pub struct Serving {
+    pub head: u16,
+    pub writable: u64,
+    pub room: u32,
+}
+
 /// An administration queue of 4 to 256 entries, of which half as many commands are outstanding at most, since each takes
-/// two descriptors. Contracts see its size and its history, the latest entry first.
+/// two descriptors. Its commands stand in a split ring in the host's memory, which has the ring at page 1 and the slots
+/// behind it. Contracts see its size and its history, the latest entry first.
 #[derive(Drop)]
 pub struct AdminRing {
     size: u16,
@@ -26,7 +50,12 @@ pub struct AdminRing {
     fetched: u64,
     completed: u64,
     floors: Option<Floors>,
-    table: Slab<Slot>,
+    mem: GuestMem,
+    layout: Layout,
+    slots: u64,
+    driver: RingDriver,
+    serving: Serving,
+    table: Slab<Note>,
     log: Log<RingCall, RingReply>,
 }
 
@@ -38,11 +67,11 @@ impl Model for AdminRing {
 
     ghost Value = { Cell ℕ RingCall RingReply };
 
-    ghost use Rattle.admin_ring.specs.Kept.{Keeps};
+    ghost use Rattle.admin_ring.specs.Bytes.{IsQueue};
 
     ghost view = { λ r. record { made = r.size; history = r.log.entries } };
 
-    ghost invariant = { λ r. Keeps r.size r.posted r.fetched r.completed r.floors r.table r.log };
+    ghost invariant = { λ r. IsQueue r.size r.posted r.fetched r.completed r.floors r.mem r.layout r.slots r.driver r.serving r.table r.log };
 }
 
 /// A reply at a place of the history.
@@ -53,7 +82,7 @@ fn answered(at: u64, reply: RingReply) -> Placed<RingReply>
 }
 
 /// The entries that the commands may still leave.
-fn owed(posted: u64, fetched: u64, completed: u64, table: &Slab<Slot>) -> u64
+fn owed(posted: u64, fetched: u64, completed: u64, table: &Slab<Note>) -> u64
     requires fetched { fetched ≤ posted }
     requires completed { completed ≤ posted }
     requires most { owed posted fetched completed (slab_len table.now) ≤ history_limit }
@@ -62,34 +91,13 @@ fn owed(posted: u64, fetched: u64, completed: u64, table: &Slab<Slot>) -> u64
     (posted - fetched) + (posted - completed) + table.len() as u64
 }
 
-/// The answer to a Take of an outstanding command.
-fn taken(floors: &Option<Floors>, slot: &Slot) -> RingReply
-    ensures { result ≡ taken_answer floors.now (Some slot.now) }
+/// A part of the memory, of at most 256 bytes.
+fn piece_at(mem: &GuestMem, addr: u64, len: u32) -> Piece
+    requires inside { addr + len ≤ length mem.now }
+    requires few { len ≤ 256 }
+    ensures { result ≡ bytes_at addr len mem.now }
 {
-    match &slot.completion {
-        Some((bytes, floor)) => RingReply::Ready {
-            bytes: bytes.first(slot.writable),
-            floor: *floor,
-        },
-        None => match floors {
-            Some(floors) => RingReply::Lost {
-                floor: floors.at(slot.tag.guest),
-            },
-            None => RingReply::NotYet,
-        },
-    }
-}
-
-/// The answer to a Pop where this command is the next.
-fn fetched(slot: &Slot) -> RingReply
-    ensures { result ≡ fetched_answer (Some slot.now) }
-{
-    RingReply::Fetched {
-        seq: slot.seq,
-        bytes: slot.bytes.copy(),
-        writable: slot.writable,
-        tag: slot.tag,
-    }
+    Piece::from_slice(mem.part(addr, u64::from(len)))
 }
 
 impl AdminRing {
@@ -100,52 +108,60 @@ impl AdminRing {
         ensures made { IfOk result (λ ring. ring.made ≡ size) }
         ensures empty { IfOk result (λ ring. ring.history ≡ []) }
     {
+        let Some(layout) = legacy(1, size, MEMORY_LIMIT) else {
+            return Err(NoMemory);
+        };
+        let slots = (layout.end + PAGE_SIZE - 1) / PAGE_SIZE * PAGE_SIZE;
+        let end = slots + SLOT_SIZE * u64::from(size / 2);
+        let mem = GuestMem::new(alloc, ((end + PAGE_SIZE - 1) / PAGE_SIZE) as u32)?;
+        let driver = RingDriver::new(alloc, layout)?;
+        let table = Slab::with_capacity(alloc, usize::from(size / 2))?;
+        if table.capacity() != usize::from(size / 2) {
+            return Err(NoMemory);
+        }
         Ok(AdminRing {
             size,
             posted: 0,
             fetched: 0,
             completed: 0,
             floors: None,
-            table: Slab::with_capacity(alloc, usize::from(size / 2))?,
+            mem,
+            layout,
+            slots,
+            driver,
+            serving: Serving {
+                head: 0,
+                writable: 0,
+                room: 0,
+            },
+            table,
             log: Log::new(alloc),
         })
-    }
-
-    /// The outstanding command of this number.
-    fn slot(&self, seq: u64) -> Option<&Slot>
-        ensures { option_copied result ≡ slot_of self.now.history seq }
-    {
-        match find(&self.table, seq) {
-            Some(key) => self.table.get(key),
-            None => None,
-        }
-    }
-
-    /// What a Pop is answered.
-    fn answer_pop(&self) -> RingReply
-        ensures { result ≡ pop_answer self.now.history }
-    {
-        let None = &self.floors else {
-            return RingReply::Empty;
-        };
-        if self.completed < self.fetched {
-            return RingReply::InService {
-                seq: self.completed,
-            };
-        }
-        match self.slot(self.fetched) {
-            Some(slot) => fetched(slot),
-            None => RingReply::Empty,
-        }
     }
 
     /// What a Take of this number is answered.
     fn answer_take(&self, seq: u64) -> RingReply
         ensures { result ≡ take_answer self.now.history seq }
     {
-        match self.slot(seq) {
-            Some(slot) => taken(&self.floors, slot),
-            None => RingReply::Stale,
+        let Some(key) = find(&self.table, seq) else {
+            return RingReply::Stale;
+        };
+        let Some(note) = self.table.get(key) else {
+            return RingReply::Stale;
+        };
+        match (note.answer, &self.floors) {
+            (Some((count, floor)), _) => RingReply::Ready {
+                bytes: piece_at(
+                    &self.mem,
+                    self.slots + SLOT_SIZE * key as u64 + HALF_SLOT,
+                    count,
+                ),
+                floor,
+            },
+            (None, Some(floors)) => RingReply::Lost {
+                floor: floors.at(note.tag.guest),
+            },
+            (None, None) => RingReply::NotYet,
         }
     }
 
@@ -179,13 +195,25 @@ impl AdminRing {
         }
         self.log.reserve(more)?;
         let seq = self.posted;
-        self.table.insert_reserved(Slot {
+        let command = bytes.as_slice();
+        let len = command.len() as u32;
+        let key = self.table.insert_reserved(Note {
             seq,
-            bytes: bytes.copy(),
+            len,
             writable,
             tag,
-            completion: None,
+            answer: None,
         });
+        let slot = self.slots + SLOT_SIZE * key as u64;
+        self.mem.write(slot, command);
+        let _ = self.driver.post(
+            &mut self.mem,
+            Span { addr: slot, len },
+            Span {
+                addr: slot + HALF_SLOT,
+                len: writable,
+            },
+        );
         self.log.put(Entry {
             who,
             call: RingCall::Post {
@@ -210,15 +238,51 @@ impl AdminRing {
         ensures most { length self.new.history ≤ history_limit }
     {
         let at = self.log.length();
-        let reply = self.answer_pop();
-        if reply.is_quiet() {
-            return Placed { at, reply };
+        let None = &self.floors else {
+            return answered(at, RingReply::Empty);
+        };
+        if self.completed < self.fetched {
+            return answered(
+                at,
+                RingReply::InService {
+                    seq: self.completed,
+                },
+            );
         }
+        let PairFound::Pair {
+            head,
+            readable,
+            readable_len,
+            writable,
+            writable_len,
+        } = next_pair(
+            &self.mem,
+            &self.layout,
+            (self.fetched % INDEX_MODULUS) as u16,
+        )
+        else {
+            return answered(at, RingReply::Empty);
+        };
+        let key = (readable - self.slots) / SLOT_SIZE;
+        let Some(note) = self.table.get(key as usize) else {
+            return answered(at, RingReply::Empty);
+        };
+        let reply = RingReply::Fetched {
+            seq: note.seq,
+            bytes: piece_at(&self.mem, readable, readable_len),
+            writable: writable_len,
+            tag: note.tag,
+        };
         self.log.put(Entry {
             who,
             call: RingCall::Pop,
             reply: reply.copy(),
         });
+        self.serving = Serving {
+            head,
+            writable,
+            room: writable_len,
+        };
         self.fetched += 1;
         Placed { at, reply }
     }
@@ -241,10 +305,27 @@ impl AdminRing {
         if seq != self.completed || self.completed >= self.fetched {
             return stale;
         }
-        let Some(key) = find(&self.table, seq) else {
+        let Serving {
+            head,
+            writable,
+            room,
+        } = self.serving;
+        let reply = bytes.as_slice();
+        let count = reply.len().min(room as usize);
+        self.mem.write(writable, &reply[..count]);
+        put_used(
+            &mut self.mem,
+            &self.layout,
+            (self.completed % INDEX_MODULUS) as u16,
+            head,
+            count as u32,
+        );
+        let TakenUsed::Used { head: back, length } = self.driver.take_used(&self.mem) else {
             return stale;
         };
-        complete(&mut self.table, key, bytes.copy(), floor);
+        let command = read_descriptor(&self.mem, &self.layout, back).addr;
+        let key = (command - self.slots) / SLOT_SIZE;
+        answer(&mut self.table, key as usize, length, floor);
         self.log.put(Entry {
             who,
             call: RingCall::Complete {
