@@ -1,48 +1,31 @@
 //! The administration queue.
-ghost use Rattle.std.specs.Prelude.{◌≡◌, ◌≤◌, ◌<◌, ◌^◌, ◌+◌, ◌/◌, [], ◌∷◌, true, false, ℕ, List, length, IsTrue, IsOk, IfOk, OnErr, OnOk, Option};
+ghost use Rattle.std.specs.Prelude.{◌≡◌, ◌≤◌, ◌<◌, ◌^◌, ◌+◌, ◌*◌, ◌/◌, ◌%◌, [], ◌∷◌, true, false, ℕ, List, length, IsTrue, IsOk, IfOk, OnErr, OnOk, Option, Some};
 ghost use Rattle.group_calls.specs.declared.queue.RingCall.{RingCall};
 ghost use Rattle.group_calls.specs.declared.queue.RingCall.TheVariants.{Post, Pop, Complete, Take, Reset};
 ghost use Rattle.history.specs.Legal.{IsAnswered};
 ghost use Rattle.history.specs.Limits.{history_limit, actor_limit};
 ghost use Rattle.group_calls.specs.Limits.{writable_limit};
 ghost use Rattle.group_calls.specs.Queue.{IsQueueSize, pop_answer, take_answer, queue_answer, queue_may, queue_spares, is_quiet_reply};
-ghost use Rattle.byte_fields.specs.Places.{bytes_at};
-ghost use Rattle.admin_ring.specs.Kept.{owed};
+ghost use Rattle.ring_layout.specs.Chain.{index_modulus};
 ghost use Rattle.slab.specs.Slab.{slab_len};
+ghost use Rattle.admin_ring.specs.Host.{IsHost, slot_count};
+ghost use Rattle.admin_ring.specs.Slots.{slot_in};
+ghost use Rattle.admin_ring.specs.Kept.{taken_answer, owed};
+ghost use Rattle.admin_ring.specs.Bytes.{IsNote};
 
-use crate::table::{Note, answer, find};
+use crate::host::Host;
+use crate::table::{Note, Table};
 use board_text::{Floors, Piece};
 use group_calls::{Entry, HISTORY_LIMIT, Log, Placed, RingCall, RingReply, Serial, Tag};
-use guest_mem::{GuestMem, PAGE_SIZE};
-use ring_device::{PairFound, next_pair, put_used};
-use ring_driver::{RingDriver, Span, TakenUsed};
-use ring_layout::{Layout, legacy, read_descriptor};
-use slab::Slab;
 use std::alloc::{AllocError as NoMemory, Global};
 use std::marker::Model;
 
-// A slot has 512 bytes: its first half is for the command, its second for the answer.
-const SLOT_SIZE: u64 = 512;
-
-const HALF_SLOT: u64 = 256;
-
-// The index of either ring runs modulo this (VIRTIO 1.3, 2.7.6 and 2.7.8).
+// Positions in either ring run modulo this (VIRTIO 1.3, 2.7.6 and 2.7.8).
 const INDEX_MODULUS: u64 = 65_536;
 
-// The largest memory that a ring lies in.
-const MEMORY_LIMIT: u64 = 262_144;
-
-/// The chain that the device serves: its head, and its buffer for the answer.
-#[derive(Clone, Copy, Debug, PartialEq, Eq)]
-pub struct Serving {
-    pub head: u16,
-    pub writable: u64,
-    pub room: u32,
-}
-
 /// An administration queue of 4 to 256 entries, of which half as many commands are outstanding at most, since each takes
-/// two descriptors. Its commands stand in a split ring in the host's memory, which has the ring at page 1 and the slots
-/// behind it. Contracts see its size and its history, the latest entry first.
+/// two descriptors. Its commands stand in a split ring in the host's memory. Contracts see its size and its history, the
+/// latest entry first.
 #[derive(Drop)]
 pub struct AdminRing {
     size: u16,
@@ -50,12 +33,8 @@ pub struct AdminRing {
     fetched: u64,
     completed: u64,
     floors: Option<Floors>,
-    mem: GuestMem,
-    layout: Layout,
-    slots: u64,
-    driver: RingDriver,
-    serving: Serving,
-    table: Slab<Note>,
+    host: Host,
+    table: Table,
     log: Log<RingCall, RingReply>,
 }
 
@@ -71,7 +50,7 @@ impl Model for AdminRing {
 
     ghost view = { λ r. record { made = r.size; history = r.log.entries } };
 
-    ghost invariant = { λ r. IsQueue r.size r.posted r.fetched r.completed r.floors r.mem r.layout r.slots r.driver r.serving r.table r.log };
+    ghost invariant = { λ r. IsQueue r.size r.posted r.fetched r.completed r.floors r.host r.table r.log };
 }
 
 /// A reply at a place of the history.
@@ -81,8 +60,15 @@ fn answered(at: u64, reply: RingReply) -> Placed<RingReply>
     Placed { at, reply }
 }
 
+/// The position of the chain before which so many went.
+fn position(count: u64) -> u16
+    ensures { result ≡ count % index_modulus }
+{
+    (count % INDEX_MODULUS) as u16
+}
+
 /// The entries that the commands may still leave.
-fn owed(posted: u64, fetched: u64, completed: u64, table: &Slab<Note>) -> u64
+fn owed(posted: u64, fetched: u64, completed: u64, table: &Table) -> u64
     requires fetched { fetched ≤ posted }
     requires completed { completed ≤ posted }
     requires most { owed posted fetched completed (slab_len table.now) ≤ history_limit }
@@ -91,13 +77,22 @@ fn owed(posted: u64, fetched: u64, completed: u64, table: &Slab<Note>) -> u64
     (posted - fetched) + (posted - completed) + table.len() as u64
 }
 
-/// A part of the memory, of at most 256 bytes.
-fn piece_at(mem: &GuestMem, addr: u64, len: u32) -> Piece
-    requires inside { addr + len ≤ length mem.now }
-    requires few { len ≤ 256 }
-    ensures { result ≡ bytes_at addr len mem.now }
+/// The answer to a Take of the command in a slot.
+fn taken(host: &Host, key: usize, note: &Note, floors: &Option<Floors>) -> RingReply
+    requires host { IsHost host.now }
+    requires note { IsNote (slot_count host.now) key note.now }
+    ensures { result ≡ taken_answer floors.now (Some (slot_in host.now.mem host.now.slots key note.now)) }
 {
-    Piece::from_slice(mem.part(addr, u64::from(len)))
+    match (note.answer, floors) {
+        (Some((count, floor)), _) => RingReply::Ready {
+            bytes: host.answer(key, count),
+            floor,
+        },
+        (None, Some(floors)) => RingReply::Lost {
+            floor: floors.at(note.tag.guest),
+        },
+        (None, None) => RingReply::NotYet,
+    }
 }
 
 impl AdminRing {
@@ -108,61 +103,16 @@ impl AdminRing {
         ensures made { IfOk result (λ ring. ring.made ≡ size) }
         ensures empty { IfOk result (λ ring. ring.history ≡ []) }
     {
-        let Some(layout) = legacy(1, size, MEMORY_LIMIT) else {
-            return Err(NoMemory);
-        };
-        let slots = (layout.end + PAGE_SIZE - 1) / PAGE_SIZE * PAGE_SIZE;
-        let end = slots + SLOT_SIZE * u64::from(size / 2);
-        let mem = GuestMem::new(alloc, ((end + PAGE_SIZE - 1) / PAGE_SIZE) as u32)?;
-        let driver = RingDriver::new(alloc, layout)?;
-        let table = Slab::with_capacity(alloc, usize::from(size / 2))?;
-        if table.capacity() != usize::from(size / 2) {
-            return Err(NoMemory);
-        }
         Ok(AdminRing {
             size,
             posted: 0,
             fetched: 0,
             completed: 0,
             floors: None,
-            mem,
-            layout,
-            slots,
-            driver,
-            serving: Serving {
-                head: 0,
-                writable: 0,
-                room: 0,
-            },
-            table,
+            host: Host::new(alloc, size)?,
+            table: Table::with_capacity(alloc, usize::from(size / 2))?,
             log: Log::new(alloc),
         })
-    }
-
-    /// What a Take of this number is answered.
-    fn answer_take(&self, seq: u64) -> RingReply
-        ensures { result ≡ take_answer self.now.history seq }
-    {
-        let Some(key) = find(&self.table, seq) else {
-            return RingReply::Stale;
-        };
-        let Some(note) = self.table.get(key) else {
-            return RingReply::Stale;
-        };
-        match (note.answer, &self.floors) {
-            (Some((count, floor)), _) => RingReply::Ready {
-                bytes: piece_at(
-                    &self.mem,
-                    self.slots + SLOT_SIZE * key as u64 + HALF_SLOT,
-                    count,
-                ),
-                floor,
-            },
-            (None, Some(floors)) => RingReply::Lost {
-                floor: floors.at(note.tag.guest),
-            },
-            (None, None) => RingReply::NotYet,
-        }
     }
 
     fn post(
@@ -196,24 +146,9 @@ impl AdminRing {
         self.log.reserve(more)?;
         let seq = self.posted;
         let command = bytes.as_slice();
-        let len = command.len() as u32;
-        let key = self.table.insert_reserved(Note {
-            seq,
-            len,
-            writable,
-            tag,
-            answer: None,
-        });
-        let slot = self.slots + SLOT_SIZE * key as u64;
-        self.mem.write(slot, command);
-        let _ = self.driver.post(
-            &mut self.mem,
-            Span { addr: slot, len },
-            Span {
-                addr: slot + HALF_SLOT,
-                len: writable,
-            },
-        );
+        let note = Note::new(seq, command.len() as u32, writable, tag);
+        let key = self.table.insert(note)?;
+        self.host.post(key, command, writable);
         self.log.put(Entry {
             who,
             call: RingCall::Post {
@@ -224,10 +159,7 @@ impl AdminRing {
             reply: RingReply::Seq(seq),
         });
         self.posted = seq + 1;
-        Ok(Placed {
-            at,
-            reply: RingReply::Seq(seq),
-        })
+        Ok(answered(at, RingReply::Seq(seq)))
     }
 
     fn pop(&mut self, who: u32) -> Placed<RingReply>
@@ -241,36 +173,21 @@ impl AdminRing {
         let None = &self.floors else {
             return answered(at, RingReply::Empty);
         };
-        if self.completed < self.fetched {
-            return answered(
-                at,
-                RingReply::InService {
-                    seq: self.completed,
-                },
-            );
+        if self.host.serving.is_some() {
+            let seq = self.completed;
+            return answered(at, RingReply::InService { seq });
         }
-        let PairFound::Pair {
-            head,
-            readable,
-            readable_len,
-            writable,
-            writable_len,
-        } = next_pair(
-            &self.mem,
-            &self.layout,
-            (self.fetched % INDEX_MODULUS) as u16,
-        )
-        else {
+        let Some(chain) = self.host.fetch(position(self.fetched)) else {
             return answered(at, RingReply::Empty);
         };
-        let key = (readable - self.slots) / SLOT_SIZE;
-        let Some(note) = self.table.get(key as usize) else {
-            return answered(at, RingReply::Empty);
+        let (key, bytes) = self.host.command(&chain);
+        let Some(note) = self.table.get(key) else {
+            unreachable!();
         };
         let reply = RingReply::Fetched {
             seq: note.seq,
-            bytes: piece_at(&self.mem, readable, readable_len),
-            writable: writable_len,
+            bytes,
+            writable: chain.writable.len,
             tag: note.tag,
         };
         self.log.put(Entry {
@@ -278,13 +195,8 @@ impl AdminRing {
             call: RingCall::Pop,
             reply: reply.copy(),
         });
-        self.serving = Serving {
-            head,
-            writable,
-            room: writable_len,
-        };
         self.fetched += 1;
-        Placed { at, reply }
+        answered(at, reply)
     }
 
     fn complete(&mut self, who: u32, seq: u64, bytes: &Piece, floor: u64) -> Placed<RingReply>
@@ -295,37 +207,17 @@ impl AdminRing {
         ensures most { length self.new.history ≤ history_limit }
     {
         let at = self.log.length();
-        let stale = Placed {
-            at,
-            reply: RingReply::Stale,
-        };
         let None = &self.floors else {
-            return stale;
+            return answered(at, RingReply::Stale);
         };
-        if seq != self.completed || self.completed >= self.fetched {
-            return stale;
+        let Some(chain) = self.host.serving else {
+            return answered(at, RingReply::Stale);
+        };
+        if seq != self.completed {
+            return answered(at, RingReply::Stale);
         }
-        let Serving {
-            head,
-            writable,
-            room,
-        } = self.serving;
-        let reply = bytes.as_slice();
-        let count = reply.len().min(room as usize);
-        self.mem.write(writable, &reply[..count]);
-        put_used(
-            &mut self.mem,
-            &self.layout,
-            (self.completed % INDEX_MODULUS) as u16,
-            head,
-            count as u32,
-        );
-        let TakenUsed::Used { head: back, length } = self.driver.take_used(&self.mem) else {
-            return stale;
-        };
-        let command = read_descriptor(&self.mem, &self.layout, back).addr;
-        let key = (command - self.slots) / SLOT_SIZE;
-        answer(&mut self.table, key as usize, length, floor);
+        let (key, count) = self.host.complete(position(seq), chain, bytes.as_slice());
+        self.table.answer(key, count, floor);
         self.log.put(Entry {
             who,
             call: RingCall::Complete {
@@ -336,10 +228,7 @@ impl AdminRing {
             reply: RingReply::Completed,
         });
         self.completed = seq + 1;
-        Placed {
-            at,
-            reply: RingReply::Completed,
-        }
+        answered(at, RingReply::Completed)
     }
 
     fn take(&mut self, who: u32, seq: u64) -> Placed<RingReply>
@@ -350,20 +239,23 @@ impl AdminRing {
         ensures most { length self.new.history ≤ history_limit }
     {
         let at = self.log.length();
-        let reply = self.answer_take(seq);
-        if reply.is_quiet() {
-            return Placed { at, reply };
-        }
-        let Some(key) = find(&self.table, seq) else {
-            return Placed { at, reply };
+        let Some(key) = self.table.find(seq) else {
+            return answered(at, RingReply::Stale);
         };
-        let _ = self.table.remove(key);
+        let Some(note) = self.table.get(key) else {
+            unreachable!();
+        };
+        let reply = taken(&self.host, key, note, &self.floors);
+        if reply.is_quiet() {
+            return answered(at, reply);
+        }
+        self.table.remove(key);
         self.log.put(Entry {
             who,
             call: RingCall::Take { seq },
             reply: reply.copy(),
         });
-        Placed { at, reply }
+        answered(at, reply)
     }
 
     fn reset(&mut self, who: u32, floors: &Floors) -> Result<Placed<RingReply>, NoMemory>
@@ -388,10 +280,7 @@ impl AdminRing {
             reply: RingReply::ResetDone,
         });
         self.floors = Some(floors.copy());
-        Ok(Placed {
-            at,
-            reply: RingReply::ResetDone,
-        })
+        Ok(answered(at, RingReply::ResetDone))
     }
 }
 
