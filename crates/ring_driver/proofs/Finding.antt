@@ -4,7 +4,7 @@ use Rattle.std.specs.Prelude.{◌==◌, nat_lt, nat_le}
 use Rattle.std.proofs.lemmas.Bool.Decides.{nat_tests}
 use Rattle.byte_fields.specs.Places.{le16}
 use Rattle.ring_layout.specs.declared.layout.Layout.{Layout}
-use Rattle.ring_layout.specs.Chain.{IsChain, descriptor, available, gap, found, chain_at, is_buffer, nothing, chain}
+use Rattle.ring_layout.specs.Chain.{IsChain, descriptor, available, gap, found, chain_at, nothing, chain}
 use Rattle.ring_layout.proofs.Chains.{only_chain}
 use Rattle.ring_driver.specs.Driver.{Driver}
 use Rattle.ring_driver.specs.Between.{Pair, Ring, Stands, IsInTable, AreInTable, AreAvailable, first_of, second_of}

@@ -1,9 +1,19 @@
-//! What a device does to a ring, and what it finds. These laws speak of the definitions alone, so their bodies are empty.
+//! What a device does to a ring, and what it finds: laws of the definitions alone, whose bodies are empty. And what follows
+//! from the types alone.
 ghost use Rattle.std.specs.Prelude.{◌≡◌, ◌+◌, ◌%◌, ◌<◌, ◌^◌, ◌++◌, [], ◌∷◌, ℕ, List, length};
 ghost use Rattle.ring_layout.specs.Chain.{available, found, nothing, chain, used_writes, written, index_modulus};
 ghost use Rattle.ring_driver.specs.Driver.{Driver};
 ghost use Rattle.ring_driver.specs.Same.{SameBytes};
 ghost use Rattle.ring_driver.specs.Between.{Pair, Ring, Stands, IsInTable, first_of, second_of, used, with_fetched, with_used};
+
+use crate::driver::RingDriver;
+
+fn is_shared<T: Send + Sync>() {}
+
+/// A driver may be sent to threads and shared by them.
+pub fn drivers_cross_threads() {
+    is_shared::<RingDriver>();
+}
 
 /// At its position the device finds the chain that waits longest (VIRTIO 1.3, 2.7.5 and 2.7.6).
 pub fn a_posted_chain_is_found()
