@@ -1,2 +1,2 @@
 pub mod Performing
-mod Places
+pub mod Widths

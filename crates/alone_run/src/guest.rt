@@ -1,89 +1,93 @@
-//! The guest and its device.
-ghost use Rattle.std.specs.Prelude.{◌≡◌, ◌∷◌, ◌++◌, [], ◌<◌, ℕ, List, IfOk, OnOk, length, false, option_map};
-ghost use Rattle.group_calls.specs.declared.member.MemberMade.{MemberMade};
-ghost use Rattle.group_calls.specs.Member.{IsMemberMade, member_answer};
-ghost use Rattle.group_calls.specs.MemberEntries.{MemberEntry, is_done as is_done_of};
-ghost use Rattle.group_calls.specs.MemberRegisters.{is_msix};
-ghost use Rattle.guest_lines.specs.Lines.{event_of};
-ghost use Rattle.alone_run.specs.Transcript.{shown, made_for};
-ghost use Rattle.alone_run.specs.Kept.{Stands, Asked, Shows, shown_for};
+//! The guest and what its device was told.
+ghost use Rattle.std.specs.Prelude.{◌≡◌, ◌++◌, [], IfOk, OnOk, option_map};
+ghost use Rattle.group_calls.specs.Lone.{lone_reply as lone_reply_of};
+ghost use Rattle.guest_lines.specs.Lines.{event_of as event_of_line};
 ghost use Rattle.guest_lines.specs.Widths.{HasWidth};
+ghost use Rattle.lone_device.specs.Past.{IsLoneEvent};
 ghost use Rattle.board_script.specs.Bounds.{IsSetup};
+ghost use Rattle.alone_run.specs.Transcript.{made_for};
+ghost use Rattle.alone_run.specs.Kept.{Stands, IsReady, IsEvent, after, reply_to as reply_to_event, shown_for, Shows};
 
+use crate::lines::{event_of, io_after};
 use crate::words::push_words;
-use board_script::{ActorLine, Setup};
-use group_calls::{MemberCall, MemberReply, Serial};
+use board_script::{ActorLine, Setup, What};
+use group_calls::{LoneEvent, LoneItem, LoneReply};
 use io_bar::Bar;
-use member_core::Member;
+use lone_device::{Past, lone_reply};
 use std::alloc::{AllocError as NoMemory, Global};
 use text_out::push_number;
 
-/// A guest with its device, and what its lines left: whether I/O accesses and MSI-X are enabled.
+/// A guest with what its device is made with and was told, its BAR, and what its lines left: whether I/O accesses are
+/// enabled.
 #[derive(Drop)]
 pub(crate) struct Guest {
-    pub member: Member,
+    pub alloc: Global,
+    pub setup: Setup,
     pub bar: Bar,
     pub io: bool,
-    pub msix: bool,
+    pub past: Past,
 }
 
-// The number of the guest, which is that of its member and of the actor.
+// The number of the guest, which is that of its device and of the actor.
 const GUEST: u32 = 1;
 
-// All calls on the device have this number in its history, whoever's line they are.
-const CALLER: u32 = 0;
-
-// Whether MSI-X is enabled after a call and its reply.
-fn msix_after(msix: bool, call: &MemberCall, reply: &MemberReply) -> bool
-    ensures { (h : List MemberEntry) (who : ℕ) → msix ≡ is_msix h
-        → result ≡ is_msix (record { who = who; call = call.now; reply = reply.now } ∷ h) }
-{
-    match call {
-        MemberCall::Msix { on } => { if is_done(reply) { *on } else { msix } }
-        _ => msix,
-    }
-}
-
-fn is_done(reply: &MemberReply) -> bool
-    ensures { result ≡ is_done_of reply.now }
-{
-    !matches!(reply, MemberReply::Gone { .. } | MemberReply::Refused(_))
-}
-
 impl Guest {
-    /// The guest before its first line, with room for the history of so many lines.
-    pub fn new(alloc: Global, setup: Setup, lines: u64) -> Result<Guest, NoMemory>
+    /// The guest before its first line. This takes no memory.
+    pub fn new(alloc: Global, setup: Setup) -> Guest
         requires { IsSetup setup }
-        ensures { IfOk result (λ guest. Stands (made_for setup) guest []) }
+        ensures { Stands (made_for setup) result [] }
     {
-        let mut member = Member::new(alloc, GUEST, setup.pages, setup.kind)?;
-        member.reserve(lines)?;
-        Ok(Guest {
-            member,
+        Guest {
+            alloc,
+            setup,
             bar: Bar::new(setup.kind),
             io: true,
-            msix: false,
-        })
+            past: Past::new(alloc),
+        }
     }
 
-    /// Asks the device. The reply is the device's.
-    pub fn ask(&mut self, call: &MemberCall) -> Result<Option<MemberReply>, NoMemory>
-        ensures { IfOk result (Asked self.old self.new call.now) }
+    // What the device replies to an event, if there is one, after all that it was told.
+    fn reply_to(&self, event: &Option<LoneEvent>) -> Result<Option<LoneReply>, NoMemory>
+        requires ready { IsReady self.now }
+        requires event { IsEvent event.now }
+        ensures { IfOk result (λ reply. reply ≡ reply_to_event self.now event.now) }
     {
-        let placed = self.member.apply(CALLER, call)?;
-        self.msix = msix_after(self.msix, call, &placed.reply);
-        Ok(Some(placed.reply))
+        let Some(event) = event else {
+            return Ok(None);
+        };
+        let kind = &self.setup.kind;
+        let reply = lone_reply(self.alloc, GUEST, self.setup.pages, kind, &self.past, event)?;
+        Ok(Some(reply))
+    }
+
+    // A line was performed, with this event and reply.
+    fn note(
+        &mut self,
+        what: &What,
+        event: Option<LoneEvent>,
+        reply: Option<LoneReply>,
+    ) -> Result<(), NoMemory>
+        ensures { reply ≡ reply_to_event self.old event → OnOk result (self.new ≡ after self.old what.now event) }
+    {
+        match (event, reply) {
+            (Some(event), Some(reply)) => self.past.push(LoneItem { event, reply }),
+            _ => {
+                self.io = io_after(self.io, what);
+                Ok(())
+            }
+        }
     }
 
     /// Performs a line, and appends what the guest is shown of it.
     pub fn show(&mut self, output: &mut Vec<u8>, line: &ActorLine) -> Result<(), NoMemory>
-        requires { HasWidth line.now.what }
+        requires width { HasWidth line.now.what }
+        requires ready { IsReady self.old }
         ensures { OnOk result (Shows self.old self.new output.old.items output.new.items line.now) }
     {
-        let bar = self.bar;
-        let io = self.io;
-        let reply = self.perform(&line.what)?;
-        push_shown(output, &bar, io, line, &reply)
+        let event = event_of(&self.bar, self.io, &line.what)?;
+        let reply = self.reply_to(&event)?;
+        push_shown(output, &self.bar, self.io, line, &reply)?;
+        self.note(&line.what, event, reply)
     }
 }
 
@@ -93,7 +97,7 @@ fn push_shown(
     bar: &Bar,
     io: bool,
     line: &ActorLine,
-    reply: &Option<MemberReply>,
+    reply: &Option<LoneReply>,
 ) -> Result<(), NoMemory>
     requires { HasWidth line.now.what }
     ensures { OnOk result (output.new.items ≡ output.old.items ++ shown_for bar.now io line.now reply.now) }

@@ -12,7 +12,7 @@ fn transcript(alloc: Global, script: &Script) -> Result<Vec<u8>, NoMemory>
     requires { length script.now.guests ≡ 1 }
     ensures { IfOk result (λ text. text.items ≡ alone_text script.now) }
 {
-    let mut guest = Guest::new(alloc, script.setup(1), script.line_count() as u64)?;
+    let mut guest = Guest::new(alloc, script.setup(1));
     let mut output = Vec::from_slice(alloc, b"guest 1\n")?;
     'lines: for index in 0..script.line_count() {
         guest.show(&mut output, script.line(index))?;

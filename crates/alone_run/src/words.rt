@@ -1,11 +1,10 @@
 //! Answers in words.
 ghost use Rattle.std.specs.Prelude.{◌≡◌, ◌++◌, ◌≤◌, codes, length, true, OnOk};
-ghost use Rattle.guest_lines.specs.Lines.{halt_words, reply_words, ones, outside_words};
-ghost use Rattle.alone_run.specs.Kept.{told_words, words_for};
+ghost use Rattle.guest_lines.specs.Lines.{halt_words, reply_words, ones, read_count as read_count_of, lone_words, outside_words, answer_words};
 ghost use Rattle.guest_lines.specs.Widths.{HasWidth};
 
 use board_script::What;
-use group_calls::{Halt, MemberReply};
+use group_calls::{Halt, LoneReply, MemberReply};
 use io_bar::Bar;
 use std::alloc::AllocError as NoMemory;
 use text_out::push_hex;
@@ -47,18 +46,28 @@ fn push_reply(output: &mut Vec<u8>, reply: &MemberReply) -> Result<(), NoMemory>
     }
 }
 
-// Appends the words for the reply to a line.
-fn push_told(output: &mut Vec<u8>, what: &What, reply: &MemberReply) -> Result<(), NoMemory>
+// How many bytes a read of the BAR has.
+fn read_count(what: &What) -> u32
     requires { HasWidth what.now }
-    ensures { OnOk result (output.new.items ≡ output.old.items ++ told_words what.now reply.now) }
+    ensures value { result ≡ read_count_of what.now }
+    ensures few { result ≤ 4 }
 {
     match what {
-        What::BarRead { length, .. } => match reply {
-            MemberReply::Data(bytes) => push_hex(output, bytes.as_slice()),
-            _ => push_ones(output, *length),
-        },
-        What::BarWrite { .. } => output.extend_from_slice(b"ok"),
-        _ => push_reply(output, reply),
+        What::BarRead { length, .. } => *length,
+        _ => 0,
+    }
+}
+
+// Appends the words for the device's reply to a line.
+fn push_told(output: &mut Vec<u8>, what: &What, reply: &LoneReply) -> Result<(), NoMemory>
+    requires { HasWidth what.now }
+    ensures { OnOk result (output.new.items ≡ output.old.items ++ lone_words what.now reply.now) }
+{
+    match reply {
+        LoneReply::Data(bytes) => push_hex(output, bytes.as_slice()),
+        LoneReply::Ignored => output.extend_from_slice(b"ok"),
+        LoneReply::Ones => push_ones(output, read_count(what)),
+        LoneReply::Other(told) => push_reply(output, told),
     }
 }
 
@@ -76,16 +85,16 @@ fn push_outside(output: &mut Vec<u8>, bar: &Bar, io: bool, what: &What) -> Resul
     }
 }
 
-/// Appends the words for a line and the reply to it, if it asked the device.
+/// Appends the words for a line and the device's reply to it, if it asked the device.
 pub(crate) fn push_words(
     output: &mut Vec<u8>,
     bar: &Bar,
     io: bool,
     what: &What,
-    reply: &Option<MemberReply>,
+    reply: &Option<LoneReply>,
 ) -> Result<(), NoMemory>
     requires { HasWidth what.now }
-    ensures { OnOk result (output.new.items ≡ output.old.items ++ words_for bar.now io what.now reply.now) }
+    ensures { OnOk result (output.new.items ≡ output.old.items ++ answer_words bar.now io what.now reply.now) }
 {
     match reply {
         Some(reply) => push_told(output, what, reply),
