@@ -52,14 +52,14 @@ module _ (made : MemberMade) (ro : Bool) (memory disk : List ℕ) (f : Facts) (q
         let bad : is_malformed request writable ≡ true = told_malformed (is_malformed request writable) (block_reply made.id ro disk request writable) told in
         sym (block_halts (sym same_test ∙ bad))
 
-    pub block_is_served : (reply : List ℕ) → Reply reply ≡ answered made.id ro disk request writable
-        → service memory f q l ds reply (disk_after ro disk request (total_length (writable_part ds))) [] ≡ block_step made ro memory disk f q l ds
-    block_is_served reply told =
+    pub block_is_served : (reply left : List ℕ) → Reply reply ≡ answered made.id ro disk request writable → left ≡ disk_after ro disk request writable
+        → service memory f q l ds reply left [] ≡ block_step made ro memory disk f q l ds
+    block_is_served reply left told left_is =
         let both : (is_malformed request writable ≡ false) × (reply ≡ block_reply made.id ro disk request writable) = told_reply (is_malformed request writable) (block_reply made.id ro disk request writable) reply told in
         let well : is_malformed (readable_bytes memory ds) (total_length (writable_part ds)) ≡ false = sym same_test ∙ both.0 in
         let reply_is : reply ≡ block_reply made.id ro disk (readable_bytes memory ds) (total_length (writable_part ds)) = both.1 ∙ ap (λ (r : List ℕ). block_reply made.id ro disk r writable) request_is ∙ ap (block_reply made.id ro disk (readable_bytes memory ds)) writable_is in
-        let disk_is : disk_after ro disk request (total_length (writable_part ds)) ≡ disk_after_request ro disk (readable_bytes memory ds) (total_length (writable_part ds)) = ap (λ (r : List ℕ). disk_after ro disk r (total_length (writable_part ds))) request_is ∙ rw well refl in
-        same_service memory f q l ds reply _ _ _ [] [] reply_is disk_is refl ∙ sym (block_goes well)
+        let disk_is : disk_after ro disk request writable ≡ disk_after_request ro disk (readable_bytes memory ds) (total_length (writable_part ds)) = ap (λ (r : List ℕ). disk_after ro disk r writable) request_is ∙ ap (disk_after ro disk (readable_bytes memory ds)) writable_is ∙ rw well refl in
+        same_service memory f q l ds reply _ left _ [] [] reply_is (left_is ∙ disk_is) refl ∙ sym (block_goes well)
 
 -- ---- network devices
 

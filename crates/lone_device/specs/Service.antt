@@ -3,7 +3,7 @@ use Rattle.std.specs.Prelude.{◌≡◌, ℕ, ◌≤◌, List, None, Some, lengt
 use Rattle.ring_layout.specs.Layout.{LiesIn}
 use Rattle.ring_layout.specs.Chain.{available, writable_part, total_length}
 use Rattle.ring_device.specs.Buffers.{LieIn}
-use Rattle.blk_engine.specs.Block.{disk_after}
+use Rattle.blk_engine.specs.Block.{stored, HasRoomAt}
 use Rattle.group_calls.specs.declared.member.MemberMade.{MemberMade}
 use Rattle.group_calls.specs.declared.member.MemberCall.{MemberCall}
 use Rattle.group_calls.specs.declared.member.MemberCall.TheVariants.{MemWrite}
@@ -26,7 +26,7 @@ use Rattle.lone_device.specs.Seen.{seen_facts}
 abbrev pub disk_served : Service → List ℕ → List ℕ
 disk_served s disk = elim s.request [
   | None ↦ disk
-  | Some r ↦ disk_after r.read_only disk r.bytes (total_length (writable_part s.chain.parts))
+  | Some r ↦ stored r.put_at r.bytes disk
 ]
 
 -- the outcome that the code found for queue q
@@ -34,16 +34,24 @@ abbrev pub as_outcome : List ℕ → List ℕ → Facts → ℕ → Found → Ou
 as_outcome memory disk f q (Stops reply) = stops reply
 as_outcome memory disk f q (Serves s) = service memory f q s.layout s.chain.parts s.reply (disk_served s disk) s.sent
 
--- the service of a chain that stands at a position of a ring in this memory
-pub record IsUsable (memory : List ℕ) (position : ℕ) (s : Service) : Type 0 where
+-- there is room on the disk for what a service puts there
+abbrev pub HasRoom : Service → List ℕ → Type 0
+HasRoom s disk = elim s.request [
+  | None ↦ Unit {0}
+  | Some r ↦ HasRoomAt r.put_at r.bytes disk
+]
+
+-- the service of a chain that stands at a position of a ring in this memory, over this disk
+pub record IsUsable (memory disk : List ℕ) (position : ℕ) (s : Service) : Type 0 where
   pub ring : LiesIn (length memory) s.layout
   pub inside : LieIn (length memory) s.chain.parts
   pub head : s.chain.head ≡ available memory s.layout position
   pub fits : length s.reply ≤ total_length (writable_part s.chain.parts)
+  pub room : HasRoom s disk
 
-abbrev pub CanBeDone : List ℕ → ℕ → Found → Type 0
-CanBeDone memory position (Stops reply) = Unit {0}
-CanBeDone memory position (Serves s) = IsUsable memory position s
+abbrev pub CanBeDone : List ℕ → List ℕ → ℕ → Found → Type 0
+CanBeDone memory disk position (Stops reply) = Unit {0}
+CanBeDone memory disk position (Serves s) = IsUsable memory disk position s
 
 -- what a step of each queue does over what is seen
 abbrev pub does : Stored → Seen → ℕ → Outcome

@@ -13,7 +13,7 @@ use crate::frames::Frames;
 use crate::seen::Seen;
 use crate::service::{Outcome, Request, Service};
 use crate::stored::Stored;
-use blk_engine::BlkAnswer;
+use blk_engine::{BlkAnswer, BlkPlan};
 use board_text::Bytes;
 use group_calls::{Halt, Kind, MemberReply};
 use net_engine::transmit;
@@ -39,17 +39,20 @@ impl Stored {
         requires inside { LieIn (length self.now.memory) chain.parts }
         ensures told { (f : Facts) (q : ℕ) → IfOk result (λ outcome. as_outcome self.now.memory self.now.disk f q outcome
             ≡ block_step self.now.made read_only self.now.memory self.now.disk f q layout chain.parts) }
-        ensures ready { (position : ℕ) → chain.head ≡ available self.now.memory layout position → IfOk result (CanBeDone self.now.memory position) }
+        ensures ready { (position : ℕ) → chain.head ≡ available self.now.memory layout position → IfOk result (CanBeDone self.now.memory self.now.disk position) }
     {
         let bytes = gather(self.alloc, &self.memory, &chain)?;
         let writable = chain.writable();
         let id = self.made.id;
-        match blk_engine::answer(self.alloc, &self.disk, id, read_only, &bytes, writable)? {
+        let BlkPlan { answer, put_at } = blk_engine::plan(
+            self.alloc, &self.disk, id, read_only, &bytes, writable,
+        )?;
+        match answer {
             BlkAnswer::Reply(reply) => Ok(Outcome::Serves(Service {
                 layout,
                 chain,
                 reply,
-                request: Some(Request { read_only, bytes }),
+                request: Some(Request { put_at, bytes }),
                 sent: Bytes::new(self.alloc),
             })),
             BlkAnswer::Malformed => Ok(Outcome::Stops(MemberReply::Halted(Halt::Request))),
@@ -67,7 +70,7 @@ impl Stored {
         requires inside { LieIn (length self.now.memory) chain.parts }
         ensures told { (f : Facts) (q : ℕ) → IfOk result (λ outcome. as_outcome self.now.memory self.now.disk f q outcome
             ≡ receive_step self.now.memory self.now.disk f q layout chain.parts (waiting frames.now)) }
-        ensures ready { (position : ℕ) → chain.head ≡ available self.now.memory layout position → IfOk result (CanBeDone self.now.memory position) }
+        ensures ready { (position : ℕ) → chain.head ≡ available self.now.memory layout position → IfOk result (CanBeDone self.now.memory self.now.disk position) }
     {
         if frames.count() == 0 {
             return Ok(Outcome::Stops(MemberReply::Empty));
@@ -91,7 +94,7 @@ impl Stored {
         requires inside { LieIn (length self.now.memory) chain.parts }
         ensures told { (f : Facts) (q : ℕ) → IfOk result (λ outcome. as_outcome self.now.memory self.now.disk f q outcome
             ≡ transmit_step self.now.memory self.now.disk f q layout chain.parts) }
-        ensures ready { (position : ℕ) → chain.head ≡ available self.now.memory layout position → IfOk result (CanBeDone self.now.memory position) }
+        ensures ready { (position : ℕ) → chain.head ≡ available self.now.memory layout position → IfOk result (CanBeDone self.now.memory self.now.disk position) }
     {
         let bytes = gather(self.alloc, &self.memory, &chain)?;
         let sent = frame_of(self.alloc, &bytes)?;
@@ -117,7 +120,7 @@ impl Stored {
         requires inside { LieIn (length self.now.memory) chain.parts }
         ensures told { IfOk result (λ outcome. as_outcome self.now.memory self.now.disk (seen_facts seen.now) queue outcome
             ≡ chain_step self.now.made self.now.made.kind self.now.memory self.now.disk (seen_facts seen.now) queue layout chain.parts) }
-        ensures ready { (position : ℕ) → chain.head ≡ available self.now.memory layout position → IfOk result (CanBeDone self.now.memory position) }
+        ensures ready { (position : ℕ) → chain.head ≡ available self.now.memory layout position → IfOk result (CanBeDone self.now.memory self.now.disk position) }
     {
         match &self.made.kind {
             Kind::Block { read_only, .. } => self.block_step(*read_only, layout, chain),
@@ -137,7 +140,7 @@ impl Stored {
         requires ring { LiesIn (length self.now.memory) layout }
         ensures told { IfOk result (λ outcome. as_outcome self.now.memory self.now.disk (seen_facts seen.now) queue outcome
             ≡ found_step self.now.made self.now.memory self.now.disk (seen_facts seen.now) queue layout (found self.now.memory layout ((seen_facts seen.now).position queue))) }
-        ensures ready { IfOk result (CanBeDone self.now.memory ((seen_facts seen.now).position queue)) }
+        ensures ready { IfOk result (CanBeDone self.now.memory self.now.disk ((seen_facts seen.now).position queue)) }
     {
         let position = seen.queue(queue).position;
         match next_chain(self.alloc, &self.memory, &layout, position)? {

@@ -4,10 +4,10 @@ use group_calls::MemberReply;
 use ring_device::Chain;
 use ring_layout::Layout;
 
-/// A request of a block device, for its disk.
+/// A request of a block device, and the sector at which its data goes onto the disk, if any does.
 #[derive(Drop)]
 pub(crate) struct Request {
-    pub(crate) read_only: bool,
+    pub(crate) put_at: Option<u64>,
     pub(crate) bytes: Bytes,
 }
 

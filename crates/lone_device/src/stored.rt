@@ -17,7 +17,7 @@ ghost use Rattle.lone_device.specs.Service.{as_outcome, CanBeDone, IsUsable, dis
 use crate::entries::receives;
 use crate::seen::Seen;
 use crate::service::{Outcome, Service};
-use blk_engine::{Disk, store};
+use blk_engine::{Disk, put};
 use board_text::Bytes;
 use group_calls::{
     Halt, Irq, Kind, LoneEvent, LoneItem, LoneReply, MemberCall, MemberMade, MemberReply, Why,
@@ -120,7 +120,7 @@ impl Stored {
         requires sized { IsSized self.now }
         requires kind { seen.now.regs.kind ≡ self.now.made.kind }
         ensures told { IfOk result (λ outcome. as_outcome self.now.memory self.now.disk (seen_facts seen.now) queue outcome ≡ does self.now seen.now queue) }
-        ensures ready { IfOk result (CanBeDone self.now.memory ((seen_facts seen.now).position queue)) }
+        ensures ready { IfOk result (CanBeDone self.now.memory self.now.disk ((seen_facts seen.now).position queue)) }
     {
         if self.is_idle(seen, queue) {
             return Ok(Outcome::Stops(MemberReply::NotPending));
@@ -140,7 +140,7 @@ impl Stored {
 
     // Puts a service's reply into its chain and the chain into the used ring at a position, and tells the disk.
     fn put(&mut self, position: u16, service: &Service)
-        requires { IsUsable self.old.memory position service.now }
+        requires { IsUsable self.old.memory self.old.disk position service.now }
         ensures memory { self.new.memory ≡ written (used_writes service.now.layout position service.now.chain.head (length service.now.reply))
             (written (scattered (writable_part service.now.chain.parts) service.now.reply) self.old.memory) }
         ensures disk { self.new.disk ≡ disk_served service.now self.old.disk }
@@ -159,7 +159,7 @@ impl Stored {
             count,
         );
         if let Some(request) = &service.request {
-            store(&mut self.disk, request.read_only, &request.bytes, writable);
+            put(&mut self.disk, request.put_at, &request.bytes);
         }
     }
 
@@ -213,7 +213,7 @@ impl Stored {
 
     // The reply of a service, whose interrupt is raised unless the guest wants none (VIRTIO 1.3, 2.7.7).
     fn served(&self, seen: &mut Seen, queue: u16, service: Service) -> MemberReply
-        requires { IsUsable self.now.memory ((seen_facts seen.old).position queue) service }
+        requires { IsUsable self.now.memory self.now.disk ((seen_facts seen.old).position queue) service }
         ensures { result ≡ MemberReply.Served (length service.reply) (interrupt self.now.memory (seen_facts seen.old) queue service.layout) service.sent }
     {
         let writable = service.chain.writable();

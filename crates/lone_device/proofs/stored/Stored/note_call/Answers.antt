@@ -17,7 +17,7 @@ returns-in-Serves-clause-memory c = λ fits.
     let step = c.in-Step-Served in
     let service = c.in-Serves.service in
     let found = c.in_ok-service-in-Step-Served in
-    let usable : IsUsable d.memory (f.position step.queue) service = subst (CanBeDone d.memory (f.position step.queue)) c.in-Serves.is found.ensures.ready in
+    let usable : IsUsable d.memory d.disk (f.position step.queue) service = subst (CanBeDone d.memory d.disk (f.position step.queue)) c.in-Serves.is found.ensures.ready in
     let position : c.queue.result.position ≡ f.position step.queue = ap (λ (x : QueueSeen). x.position) c.queue.ensures in
     let told : as_outcome d.memory d.disk f step.queue (Serves service) ≡ does d s step.queue = ap (as_outcome d.memory d.disk f step.queue) (sym c.in-Serves.is) ∙ found.ensures.told in
     c.put.ensures.memory
