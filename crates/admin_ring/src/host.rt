@@ -11,7 +11,7 @@ ghost use Rattle.admin_ring.specs.Slots.{command_at, answer_at};
 ghost use Rattle.admin_ring.specs.Host.{IsHost, IsNewHost, HasRing, HasPosted, HasFetched, IsOfSlot, SamePlaces, OthersStay, slot_count, with_completed};
 
 use board_text::Piece;
-use guest_mem::{GuestMem, PAGE_SIZE};
+use guest_mem::{GuestMem, PAGE_LIMIT, PAGE_SIZE};
 use ring_device::{PairFound, next_pair, put_used};
 use ring_driver::{RingDriver, Span, TakenUsed};
 use ring_layout::{Layout, legacy, read_descriptor};
@@ -23,7 +23,7 @@ const SLOT_SIZE: u64 = 512;
 const HALF_SLOT: u64 = 256;
 
 // The largest memory.
-const MEMORY_LIMIT: u64 = 262_144;
+const MEMORY_LIMIT: u64 = PAGE_SIZE * PAGE_LIMIT as u64;
 
 /// A chain of two buffers as the device finds it: its head, the buffer with the command, and the one for the answer.
 #[derive(Clone, Copy, Debug, PartialEq, Eq)]
@@ -45,7 +45,8 @@ pub struct Host {
 }
 
 impl Host {
-    /// The memory of a queue of this size, with nothing in it: half as many slots as the ring has descriptors.
+    /// The memory of a queue of this size, with nothing in it: the ring, and half as many slots as it has descriptors. That
+    /// are 4 pages for size 4, and 20 for size 256.
     pub fn new(alloc: Global, size: u16) -> Result<Host, NoMemory>
         requires { IsQueueSize size }
         ensures { IfOk result (IsNewHost size) }

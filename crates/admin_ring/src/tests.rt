@@ -4,6 +4,7 @@ ghost use Rattle.group_calls.specs.Queue.{IsQueueSize};
 mod plain_queue;
 
 use super::*;
+use crate::host::Host;
 use board_text::{Floors, Piece};
 use group_calls::{RingCall, RingReply, Serial, Tag, WRITABLE_LIMIT};
 use plain_queue::PlainQueue;
@@ -144,6 +145,15 @@ fn the_queue_answers_as_one_over_a_list(rt: HostRuntime) -> Result<(), NoMemory>
 #[test]
 fn the_indices_of_the_ring_pass_their_last_value(rt: HostRuntime) -> Result<(), NoMemory> {
     assert_eq!(rt; first_other_command(rt.alloc(), 65_540)?, None);
+    Ok(())
+}
+
+#[test]
+fn a_queue_takes_the_pages_of_its_ring_and_its_slots(rt: HostRuntime) -> Result<(), NoMemory> {
+    for (size, length) in [(4, 16_384), (256, 81_920)] {
+        let host = Host::new(rt.alloc(), size)?;
+        assert_eq!(rt; host.mem.length(), length, "size {size}");
+    }
     Ok(())
 }
 
