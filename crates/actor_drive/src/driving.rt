@@ -99,14 +99,15 @@ pub fn drive<C: Cells, G: Gate, R: Wait>(
     let _queues = script.queues();
     let who = cells.who();
     for _ in rt.forever() {
-        let Some(ask) = actor.next(script) else {
-            return;
-        };
-        if !is_of_group(script, &ask) {
+        let asks = actor.next(script);
+        if !asks {
             return;
         }
-        let told = perform(rt, script, who, &ask, cells, gate);
-        drop(ask);
+        let ask = actor.given();
+        if !is_of_group(script, ask) {
+            return;
+        }
+        let told = perform(rt, script, who, ask, cells, gate);
         actor.feed(told);
     }
     unreachable!()
