@@ -1,11 +1,11 @@
 #!/usr/bin/env python3
-"""A second program for `step` and `alone`: the board in plain Python, written from docs/formats.md.
+"""A second program for `step`, `alone` and `admin`: the board in plain Python, written from docs/formats.md.
 
-    conformance/reference.py step|alone < SCRIPT
+    conformance/reference.py step|alone|admin < TEXT
 
 It shares nothing with the proved program and isn't proved. It is there to be compared with: what the cases of
-conformance/cases expect of whole outputs comes from it, and tools/fuzz compares the two on random scripts.
-It takes a script that has no fault, and prints what the program prints.
+conformance/cases expect of whole outputs comes from it, and tools/fuzz compares the two on random texts.
+It takes a text that has no fault, and prints what the program prints.
 """
 import sys
 
@@ -425,6 +425,19 @@ def completion(status, qualifier, result, writable):
 INFO_RESULT = bytes([2, 2]) + bytes(62)
 
 
+def completion_of(verdict, reply, writable):
+    """The bytes of a completion, by the owner's verdict and, where that hands the command on, the member's reply."""
+    if verdict[0] == "list":
+        return completion(0, 0, le(verdict[1], 8), writable)
+    if verdict[0] == "used":
+        return completion(0, 0, b"", writable)
+    if verdict[0] == "refused":
+        return completion(verdict[1], verdict[2], b"", writable)
+    status = {"field": (EINVAL, INVALID_FIELD), "gone": (EINVAL, INVALID_MEMBER)}.get(reply[0], (0, 0))
+    result = reply[1] if reply[0] == "data" else INFO_RESULT if reply[0] == "info" else b""
+    return completion(*status, result, writable)
+
+
 class Actor:
     def __init__(self, board, who, lines):
         self.board, self.who, self.lines, self.at = board, who, lines, 0
@@ -500,18 +513,13 @@ class Actor:
         command = self.board.queues[k].commands[seq]
         data, writable, floor = command["data"], command["writable"], command["tag"][1]
         _, verdict = yield ("owner",), ("judge", data, writable)
-        if verdict[0] == "list":
-            done = completion(0, 0, le(verdict[1], 8), writable)
-        elif verdict[0] == "used":
-            done = completion(0, 0, b"", writable)
-        elif verdict[0] == "refused":
-            done, floor = completion(verdict[1], verdict[2], b"", writable), max(floor, verdict[3])
-        else:
+        reply = None
+        if verdict[0] == "refused":
+            floor = max(floor, verdict[3])
+        elif verdict[0] == "legacy":
             place, reply = yield ("member", verdict[1]), ("act", *access_of(data, writable))
             floor = max(floor, place + 1)
-            status = {"field": (EINVAL, INVALID_FIELD), "gone": (EINVAL, INVALID_MEMBER)}.get(reply[0], (0, 0))
-            result = {"data": lambda: reply[1], "info": lambda: INFO_RESULT}.get(reply[0], lambda: b"")()
-            done = completion(*status, result, writable)
+        done = completion_of(verdict, reply, writable)
         yield ("queue", k), ("complete", seq, done, floor)
         self.in_service = False
 
@@ -705,6 +713,33 @@ def alone_words(guest, device, line):
     return "ff" * size if data is None else data.hex()
 
 
+# ---- administration commands by themselves
+
+def admin(text):
+    """The completions of a text's commands, over an owner with 16 members."""
+    owner = Owner()
+    members = [Member(n, 1, ("block", 8, False) if n % 2 else ("net", bytes([2, 0, 0, 0, 0, n]))) for n in range(1, 17)]
+    answers = []
+    for line in text.split("\n"):
+        words = line.split(" ")
+        if words[0] == "vfs":
+            owner.ask(0, ("vfs", int(words[1])))
+        elif words[0] == "reset":
+            for member in members:
+                member.ask(0, ("kill",))
+            owner.ask(0, ("reset", [len(it.entries) for it in members]))
+        elif words[0] == "cmd":
+            answers.append(f"done {hex_or_dash(answer_command(owner, members, words[2], int(words[1])))}")
+    return answers
+
+
+def answer_command(owner, members, digits, writable):
+    data = b"" if digits == "-" else bytes.fromhex(digits)
+    _, verdict = owner.ask(0, ("judge", data, writable))
+    reply = members[verdict[1] - 1].ask(0, ("act", *access_of(data, writable)))[1] if verdict[0] == "legacy" else None
+    return completion_of(verdict, reply, writable)
+
+
 # ---- words
 
 def name_of(who):
@@ -781,18 +816,19 @@ def read_script(text):
 
 
 def answer(command, text):
-    script = read_script(text)
-    if command == "alone":
-        lines = alone(script)
+    if command == "admin":
+        lines = admin(text)
+    elif command == "alone":
+        lines = alone(read_script(text))
     else:
-        board = Board(script)
+        board = Board(read_script(text))
         board.run()
         lines = board.text()
     return "".join(it + "\n" for it in lines)
 
 
 def main():
-    if sys.argv[1:] not in (["step"], ["alone"]):
+    if sys.argv[1:] not in (["step"], ["alone"], ["admin"]):
         sys.exit(__doc__)
     sys.stdout.write(answer(sys.argv[1], sys.stdin.read()))
 
