@@ -59,6 +59,10 @@ def is_own(entry, guest):
     return entry.who == f"g{guest}" or (entry.call[0] == "act" and entry.call[1] != "info")
 
 
+def is_register_call(entry):
+    return entry.call[0] in ("act", "notify")
+
+
 def foreign_line(entry):
     """The line of `alone` that does to the device what another actor did; None where it does nothing to it."""
     what, reply = entry.call[0], entry.reply[0]
@@ -76,9 +80,10 @@ def foreign_line(entry):
 
 
 def match(own, entries, guest):
-    """Gives each line its event: lines and events are in one order, and each event is one line's."""
-    events = [it.place for it in entries if is_own(it, guest)]
+    """Gives each line its event: lines and events are in one order, and each event is one line's. A register access that came
+    behind the member's end is no event, and its line stands behind that end."""
     end = next((it.place for it in entries if it.call[0] == "kill"), None)
+    events = [it.place for it in entries if is_own(it, guest) and not (is_register_call(it) and end is not None and it.place > end)]
     at = 0
     for line in own:
         if line.call is None or line.answer.startswith("full "):

@@ -197,10 +197,10 @@ def merged(rng, parts):
 
 
 def schedule(rng, actors):
-    """Turns of any actors; in half of the scripts the host comes to its end between them."""
+    """Turns of any actors; in half of the scripts the host comes to its end between them, in some of these early."""
     turns = [f"{rng.choice(actors)} {rng.choice((0, 1, 1, 2, 3, 4, 5, 6, 7, 12, 30))}" for _ in range(rng.choice((0, 2, 6, 20)))]
     if rng.random() < 0.5:
-        turns.insert(rng.randrange(len(turns) + 1), "host 60")
+        turns.insert(rng.randrange(min(rng.choice((4, 20)), len(turns)) + 1), "host 60")
     return ["go " + " ".join(turns[at:at + 4]) for at in range(0, len(turns), 4)]
 
 
