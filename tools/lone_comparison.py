@@ -156,6 +156,10 @@ class GroupRun:
         """Whether one answer was in doubt; Different where the answers aren't those of the device that is alone."""
         lone_text = lone_text.replace(name_digits(1), name_digits(guest))
         answers = [it.partition(" ")[2] for it in lone_text.splitlines()[1:-1]]
+        for line in own:
+            is_after = line.words[0] == "in" and line.event is not None and line.event == end
+            if is_after and line.answer != ONES[int(line.words[2])]:
+                raise Different(f"guest {guest}: '{' '.join(line.words)}' came behind the member's end and gave {line.answer}")
         if len(answers) != len(own):
             raise Different(f"guest {guest}: {len(own)} lines, and {len(answers)} answers alone")
         differing = [at for at in range(len(own)) if own[at].answer != answers[at]]

@@ -1,0 +1,112 @@
+#!/usr/bin/env python3
+"""The cases of tools/hostile and tools/fuzz: the built program passes a short trial, and what is wrong is told.
+
+    conformance/trials.py PROGRAM [NAME..]
+
+Programs that are wrong are stand-ins of a line of shell; outputs that are wrong are those of conformance/reference.py with
+one change. The last line is 'N passed, M failed'.
+"""
+import os
+import re
+import subprocess
+import sys
+import tempfile
+
+import reference
+
+TOP = os.path.dirname(os.path.dirname(os.path.abspath(__file__)))
+TOOLS = os.path.join(TOP, "tools")
+QUERY = os.path.join("examples", "list_query.admin")
+SECONDS = 120
+sys.path.insert(0, TOOLS)
+from board_output import read_output  # noqa: E402
+from lone_comparison import Different, GroupRun  # noqa: E402
+
+# Guest 1 reads twice; the group is reset when its second read is carried out and not completed; the third comes afterwards.
+RESET = "board 1 4 0\nguest 1 block 1 8\nguest 2 block 1 8\ng1 in 12 2\ng1 in 0 4\ng1 in 18 1\ng2 peek 0 2\nhost reset\ngo g1 12 host 9\n"
+CHANGES = {
+    "another_answer": ("4 1000", "4 1100", "gave 1100, and alone 1000"),
+    "an_answer_in_doubt_that_is_not_all_ones": ("5 ffffffff", "5 00000000", "gave 00000000, and alone 400a0008"),
+    "an_answer_behind_the_end_that_is_not_all_ones": ("6 ff", "6 00", "came behind the member's end and gave 00"),
+    "another_event": ("act common-read 12 2 -> data 1000", "act common-read 14 2 -> data 1000", "has no event, and a later line has one"),
+    "an_event_of_another_actor": ("g2 memread 0 2", "w0 memread 0 2", "'peek 0 2' has no event"),
+    "an_answer_less": ("\n6 ff\n", "\n", "the numbers of its answers"),
+}
+
+
+def compared(text, output):
+    """How many guests have a line in doubt; Different where one doesn't see what it would see alone."""
+    run, doubts = GroupRun(text, read_output(output)), 0
+    for guest in run.guests:
+        lone, own, end = run.lone_script(guest)
+        doubts += run.compare(guest, own, end, reference.answer("alone", lone))
+    return doubts
+
+
+def comparison_fault(change):
+    output = reference.answer("step", RESET)
+    if change is None:
+        return None if compared(RESET, output) == 1 else "no line is in doubt"
+    old, new, told = change
+    try:
+        compared(RESET, output.replace(old, new, 1))
+    except Different as fault:
+        return None if told in str(fault) else f"told {fault}"
+    return "nothing is told"
+
+
+def tool(name, *words):
+    done = subprocess.run([sys.executable, os.path.join(TOOLS, name), *words], cwd=TOP, stdout=subprocess.PIPE, stderr=subprocess.PIPE, timeout=SECONDS)
+    return done.returncode, done.stdout.decode()
+
+
+def passing_fault(program, name, *words):
+    status, output = tool(name, "--program", program, *words)
+    return None if status == 0 and output.endswith(", 0 differences\n") else f"status {status}, {output[-300:]!r}"
+
+
+def telling_fault(line, told, name, *words):
+    """What is wrong where the program is this line of shell, of which the tool has to tell something."""
+    with tempfile.TemporaryDirectory() as folder:
+        program = os.path.join(folder, "program")
+        with open(program, "w", encoding="ascii") as file:
+            file.write(f"#!/bin/sh\n{line}\n")
+        os.chmod(program, 0o755)
+        status, output = tool(name, "--program", program, *words)
+    return None if status == 1 and re.search(told, output) and not output.endswith(" 0 differences\n") else f"status {status}, {output[-300:]!r}"
+
+
+def cases(program):
+    yield "trial_compares_a_group_with_lone_devices", comparison_fault(None)
+    for name, change in CHANGES.items():
+        yield f"trial_tells_of_{name}", comparison_fault(change)
+    few = ("--first", "40", "--more", "5", "admin", QUERY)
+    yield "trial_passes_without_memory", passing_fault(program, "hostile", "memory", *few)
+    yield "trial_passes_with_failing_streams", passing_fault(program, "hostile", "streams", *few)
+    yield "trial_passes_random_texts", passing_fault(program, "fuzz", "--count", "60")
+    yield "trial_tells_of_memory_that_is_not_missed", telling_fault("read line; echo done", "memory, first 1, every 0: status", "hostile", "memory", *few)
+    yield "trial_tells_of_a_read_that_is_not_missed", telling_fault("read line; echo done", "read, .*: status 0", "hostile", "streams", *few)
+    yield "trial_tells_of_a_status", telling_fault("exit 3", "seed 1, case 0, [a-z]+: [a-z]+: status 3", "fuzz", "--count", "3")
+    swapped = f"'{program}' \"$@\" | sed 's/ -> served 1 / -> served 2 /'"
+    yield "trial_tells_of_another_reply", telling_fault(swapped, "and the reference '", "fuzz", "--count", "12", "--share", "1")
+
+
+def faults(program, names=()):
+    """Each case with what is wrong, or None. With names, only cases whose name begins with one of them."""
+    if names and not any("trial".startswith(it[:5]) for it in names):
+        return []
+    return [(name, wrong) for name, wrong in cases(program) if name.startswith(tuple(names) or "")]
+
+
+def main():
+    found = faults(os.path.abspath(sys.argv[1]), sys.argv[2:])
+    for name, wrong in found:
+        if wrong:
+            print(f"case {name}: {wrong}")
+    failed = sum(wrong is not None for _, wrong in found)
+    print(f"{len(found) - failed} passed, {failed} failed")
+    return 1 if failed or not found else 0
+
+
+if __name__ == "__main__":
+    sys.exit(main())
