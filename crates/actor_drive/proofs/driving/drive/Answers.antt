@@ -15,22 +15,22 @@ returns-then-not-asks-clause-ended g c = λ past start short.
     let w = c.args.script.now in
     let x = g.C.Cells.sight c.loop.cells in
     let i = c.loop.invariant in
-    let e = c.next-asks-in-loop.ensures in
+    let e = c.next-asks.ensures in
     let b = i.beside past start (e.short short) in
     let own = subst (λ n. OwnLines n c.loop.actor.lines) (i.number ∙ (c.requires.who ∙ sym (ap (λ (f : Sight). f.who) i.onward.frame))) i.fits.1 in
-    let n = at_next w c.queues-queues.ensures.bounds b.0 c.loop.actor c.next-asks-in-loop.new.self x (given_where c.next-asks-in-loop.result c.next-asks-in-loop.new.self) own e.due e.stands short b.1.0 in
-    (n.now, (n.ended (ap (λ b. given_where b c.next-asks-in-loop.new.self) c.if-not-asks.true), further_then past b.0 n.now b.1.1 n.further))
+    let n = at_next w c.queues-queues.ensures.bounds b.0 c.loop.actor c.next-asks.new.self x (given_where c.next-asks.result c.next-asks.new.self) own e.due e.stands short b.1.0 in
+    (n.now, (n.ended (ap (λ b. given_where b c.next-asks.new.self) c.if-not-asks.true), further_then past b.0 n.now b.1.1 n.further))
 
 pub returns-then-not-is_of_group-clause-ended : goal.returns-then-not-is_of_group-clause-ended
 returns-then-not-is_of_group-clause-ended g c = λ past start short.
     let w = c.args.script.now in
     let x = g.C.Cells.sight c.loop.cells in
     let i = c.loop.invariant in
-    let e = c.next-asks-in-loop.ensures in
+    let e = c.next-asks.ensures in
     let b = i.beside past start (e.short short) in
     let own = subst (λ n. OwnLines n c.loop.actor.lines) (i.number ∙ (c.requires.who ∙ sym (ap (λ (f : Sight). f.who) i.onward.frame))) i.fits.1 in
-    let n = at_next w c.queues-queues.ensures.bounds b.0 c.loop.actor c.next-asks-in-loop.new.self x (given_where c.next-asks-in-loop.result c.next-asks-in-loop.new.self) own e.due e.stands short b.1.0 in
-    let asks = subst (λ o. IfSome o (λ ask. IsOfGroup w ask × IsNext w x.who record { ask = o; past = n.now } ask)) (ap (λ b. given_where b c.next-asks-in-loop.new.self) c.if-not-asks.false ∙ c.given-ask.ensures) n.asks in
+    let n = at_next w c.queues-queues.ensures.bounds b.0 c.loop.actor c.next-asks.new.self x (given_where c.next-asks.result c.next-asks.new.self) own e.due e.stands short b.1.0 in
+    let asks = subst (λ o. IfSome o (λ ask. IsOfGroup w ask × IsNext w x.who record { ask = o; past = n.now } ask)) (ap (λ b. given_where b c.next-asks.new.self) c.if-not-asks.false ∙ c.given-ask.ensures) n.asks in
     absurd (refused c.is_of_group.result (IsOfGroup w c.given-ask.result.now) c.if-not-is_of_group.true c.is_of_group.ensures asks.0)
 
 pub perform-told-requires-clause-may : goal.perform-told-requires-clause-may
@@ -48,10 +48,10 @@ loop-preserved g c =
     let x = g.C.Cells.sight c.loop.cells in
     let d = g.C.Cells.sight c.perform-told.new.cells in
     let i = c.loop.invariant in
-    let e = c.next-asks-in-loop.ensures in
+    let e = c.next-asks.ensures in
     let p = c.perform-told.ensures in
     let f = c.feed.ensures in
-    let a = c.next-asks-in-loop.new.self in
+    let a = c.next-asks.new.self in
     let ask = c.given-ask.result.now in
     let told = c.perform-told.result in
     let own = subst (λ n. OwnLines n c.loop.actor.lines) (i.number ∙ (c.requires.who ∙ sym (ap (λ (f : Sight). f.who) i.onward.frame))) i.fits.1 in
@@ -68,8 +68,8 @@ loop-preserved g c =
       beside = λ past start short.
           let still = f.short short in
           let b = i.beside past start (e.short still) in
-          let n = at_next w script b.0 c.loop.actor a x (given_where c.next-asks-in-loop.result c.next-asks-in-loop.new.self) own e.due e.stands still b.1.0 in
-          let asks = subst (λ o. IfSome o (λ ask. IsOfGroup w ask × IsNext w x.who record { ask = o; past = n.now } ask)) (ap (λ b. given_where b c.next-asks-in-loop.new.self) c.if-not-asks.false ∙ c.given-ask.ensures) n.asks in
+          let n = at_next w script b.0 c.loop.actor a x (given_where c.next-asks.result c.next-asks.new.self) own e.due e.stands still b.1.0 in
+          let asks = subst (λ o. IfSome o (λ ask. IsOfGroup w ask × IsNext w x.who record { ask = o; past = n.now } ask)) (ap (λ b. given_where b c.next-asks.new.self) c.if-not-asks.false ∙ c.given-ask.ensures) n.asks in
           let fed = at_fed w script n.now a c.feed.new.self x d ask told n.beside asks.1
           (λ performed rest stands. subst (λ o. IsSomeAnd o (λ ask. StandsWhole w x.who (and_asked ask told performed ∷ rest) c.feed.new.self)) c.given-ask.ensures (f.stands w x.who performed rest stands short))
           f.lines (f.answer short) (ap (λ (f : Sight). f.who) p.frame) p.left p.answers p.told (subst (AreCellsOf w) (sym (p.frame ∙ i.onward.frame)) c.requires.cells) p.sound in
@@ -77,4 +77,4 @@ loop-preserved g c =
     }
 
 pub given-ask-requires : goal.given-ask-requires
-given-ask-requires g c = c.next-asks-in-loop.ensures.given c.if-not-asks.false
+given-ask-requires g c = c.next-asks.ensures.given c.if-not-asks.false
