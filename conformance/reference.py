@@ -1,7 +1,8 @@
 #!/usr/bin/env python3
-"""A second program for `step`, `alone` and `admin`: the board in plain Python, written from docs/formats.md.
+"""A second program for `step`, `alone`, `admin` and `load`: the board in plain Python, written from docs/formats.md.
 
     conformance/reference.py step|alone|admin < TEXT
+    conformance/reference.py load SEED COUNT
 
 It shares nothing with the proved program and isn't proved. It is there to be compared with: what the cases of
 conformance/cases expect of whole outputs comes from it, and tools/fuzz compares the two on random texts.
@@ -827,10 +828,38 @@ def answer(command, text):
     return "".join(it + "\n" for it in lines)
 
 
+# ---- the script that is made of a seed, and the summary of its run
+
+def loaded(seed, count):
+    lines = ["board 1 4 0", "guest 1 block 4 8", "guest 2 net 4 020000000002", "guest 3 block 4 8", "guest 4 net 4 020000000004"]
+    state = seed
+    for _ in range(count):
+        state = (state * 6364136223846793005 + 1442695040888963407) % 2 ** 64
+        drawn = state >> 33
+        asked = ["in 18 1", f"out 14 {le(drawn // 16 % 4, 2).hex()}", "in 12 2", "in 19 1"][drawn // 4 % 4]
+        lines.append(f"g{1 + drawn % 4} {asked}")
+    return "\n".join(lines) + "\n"
+
+
+def load(seed, count):
+    script = read_script(loaded(seed, count))
+    board = Board(script)
+    board.run()
+    commands = sum(len(queue.commands) for queue in board.queues)
+    kinds = {line["number"]: line["what"] for line in script["lines"]}
+    total = sum(sum(bytes.fromhex(words)) for m in range(1, 5) for at, words in board.actors[m].answers if kinds[at] == "in")
+    counts = [list(kinds.values()).count(kind) for kind in ("in", "out")]
+    return f"commands {commands}\nreads {counts[0]}\nwrites {counts[1]}\nsum {total}\nend\n"
+
+
 def main():
-    if sys.argv[1:] not in (["step"], ["alone"], ["admin"]):
+    words = sys.argv[1:]
+    if len(words) == 3 and words[0] == "load":
+        sys.stdout.write(load(int(words[1]), int(words[2])))
+    elif words in (["step"], ["alone"], ["admin"]):
+        sys.stdout.write(answer(words[0], sys.stdin.read()))
+    else:
         sys.exit(__doc__)
-    sys.stdout.write(answer(sys.argv[1], sys.stdin.read()))
 
 
 if __name__ == "__main__":
