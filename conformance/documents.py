@@ -12,6 +12,7 @@ import re
 import sys
 
 import reference
+from telling import tell
 
 TOP = os.path.dirname(os.path.dirname(os.path.abspath(__file__)))
 
@@ -90,15 +91,5 @@ def faults(names=()):
     return [(name, fault_of()) for name, fault_of in cases if name.startswith(tuple(names) or "")]
 
 
-def main():
-    found = faults(sys.argv[1:])
-    for name, wrong in found:
-        if wrong:
-            print(f"case {name}: {wrong}")
-    failed = sum(wrong is not None for _, wrong in found)
-    print(f"{len(found) - failed} passed, {failed} failed")
-    return 1 if failed else 0
-
-
 if __name__ == "__main__":
-    sys.exit(main())
+    sys.exit(tell(faults(sys.argv[1:])))

@@ -14,6 +14,7 @@ import subprocess
 import sys
 import tempfile
 import time
+from telling import tell
 
 TOP = os.path.dirname(os.path.dirname(os.path.abspath(__file__)))
 SECONDS = 60
@@ -187,15 +188,5 @@ def faults(names=()):
             yield name, wrong
 
 
-def main():
-    passed = failed = 0
-    for name, wrong in faults(sys.argv[1:]):
-        passed, failed = passed + (wrong is None), failed + (wrong is not None)
-        if wrong:
-            print(f"case {name}: not so: {wrong}")
-    print(f"{passed} passed, {failed} failed")
-    return 1 if failed or not passed else 0
-
-
 if __name__ == "__main__":
-    sys.exit(main())
+    sys.exit(tell(faults(sys.argv[1:])))

@@ -30,6 +30,7 @@ import boards
 import board_output
 import run_lines
 import run_order
+from telling import tell
 
 
 def read(path):
@@ -324,15 +325,5 @@ def faults(names=()):
                 yield name, f"no answer in {SECONDS} seconds"
 
 
-def main():
-    passed = failed = 0
-    for name, wrong in faults(sys.argv[1:]):
-        passed, failed = passed + (wrong is None), failed + (wrong is not None)
-        if wrong:
-            print(f"case {name}: {wrong}")
-    print(f"{passed} passed, {failed} failed")
-    return 1 if failed or not passed else 0
-
-
 if __name__ == "__main__":
-    sys.exit(main())
+    sys.exit(tell(faults(sys.argv[1:])))

@@ -21,6 +21,7 @@ SECONDS = 120
 sys.path.insert(0, TOOLS)
 from board_output import read_output  # noqa: E402
 from lone_comparison import Different, GroupRun  # noqa: E402
+from telling import tell
 
 # Guest 1 reads twice; the group is reset when its second read is carried out and not completed; the third comes afterwards.
 RESET = "board 1 4 0\nguest 1 block 1 8\nguest 2 block 1 8\ng1 in 12 2\ng1 in 0 4\ng1 in 18 1\ng2 peek 0 2\nhost reset\ngo g1 12 host 9\n"
@@ -98,15 +99,5 @@ def faults(program, names=()):
     return [(name, wrong) for name, wrong in cases(program) if name.startswith(tuple(names) or "")]
 
 
-def main():
-    found = faults(os.path.abspath(sys.argv[1]), sys.argv[2:])
-    for name, wrong in found:
-        if wrong:
-            print(f"case {name}: {wrong}")
-    failed = sum(wrong is not None for _, wrong in found)
-    print(f"{len(found) - failed} passed, {failed} failed")
-    return 1 if failed or not found else 0
-
-
 if __name__ == "__main__":
-    sys.exit(main())
+    sys.exit(tell(faults(os.path.abspath(sys.argv[1]), sys.argv[2:])))
