@@ -6,7 +6,9 @@ use Rattle.group_board.specs.Limits.{text_limit}
 use Rattle.group_board.specs.declared.status.Status.{Status}
 use Rattle.group_board.specs.declared.status.Status.TheVariants.{Done, Usage, NoMemory, ReadFault, WriteFault, BadScript, TooLong}
 use Rattle.script_words.specs.Texts.{At}
+use Rattle.load_run.specs.Load.{load_text}
 use Rattle.group_board.specs.declared.words.Command.{Command}
+use Rattle.group_board.specs.declared.words.Load.{Load}
 use Rattle.group_board.specs.Output.{output_of, fault_line}
 
 -- the text that is put for an output or a fault
@@ -69,3 +71,15 @@ ReadsToEnd NoMemory left = Unit {0}
 ReadsToEnd ReadFault left = Unit {0}
 ReadsToEnd WriteFault left = Unit {0}
 ReadsToEnd TooLong left = Unit {0}
+
+-- ---- `load`, which reads nothing
+
+-- what its status says: the summary of the run of the script that the seed makes was put, or a prefix of it, or memory ran out
+abbrev pub LoadSays : Load → Status → Option (List ℕ) → Option (List ℕ) → Type 0
+LoadSays load Done old new = Appends old new (load_text load.seed load.count)
+LoadSays load WriteFault old new = AppendsPrefix old new (load_text load.seed load.count)
+LoadSays load NoMemory old new = Keeps old new
+LoadSays load Usage old new = ⊥
+LoadSays load ReadFault old new = ⊥
+LoadSays load (BadScript line cause) old new = ⊥
+LoadSays load TooLong old new = ⊥
