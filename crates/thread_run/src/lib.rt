@@ -1,0 +1,7 @@
+//! A whole run, each actor in a thread of its own.
+#![tactic(auto)]
+
+mod job;
+mod starting;
+
+pub use job::{Job, perform};
