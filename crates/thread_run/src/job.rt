@@ -16,13 +16,7 @@ pub struct Job {
 }
 
 /// The actor's lines are performed over the cells of the group. It may wait.
-pub fn perform<G: Gate, R: Wait>(
-    rt: &R,
-    script: &Script,
-    group: &Group,
-    gate: &G,
-    job: Job,
-) -> Job
+pub fn perform<G: Gate, R: Wait>(rt: &R, script: &Script, group: &Group, gate: &G, job: Job) -> Job
     requires { IsReady script.now group.now job.actor job.keys }
     ensures { IsDone script.now group.now job.actor job.keys result.actor result.keys }
 {

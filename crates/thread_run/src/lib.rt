@@ -1,6 +1,7 @@
 //! A whole run, each actor in a thread of its own.
 #![tactic(auto)]
 
+mod gathering;
 mod job;
 mod starting;
 

@@ -1,5 +1,5 @@
 //! The jobs of a run.
-ghost use Rattle.std.specs.Prelude.{◌≡◌, ◌<◌, [], None, IfOk, OnOk, slice_set};
+ghost use Rattle.std.specs.Prelude.{◌≡◌, ◌<◌, None, IfOk, OnOk, slice_set};
 ghost use Rattle.history.specs.Limits.{actor_limit};
 ghost use Rattle.group_cells.specs.Opening.{AreHome, IsMadeBy};
 ghost use Rattle.thread_run.specs.Jobs.{IsReady, IsNewJob};
