@@ -1,12 +1,15 @@
 //! The jobs of a run.
-ghost use Rattle.std.specs.Prelude.{◌≡◌, ◌<◌, None, IfOk, OnOk, slice_set};
+ghost use Rattle.std.specs.Prelude.{◌≡◌, ◌<◌, [], None, IfOk, OnOk, slice_set};
+ghost use Rattle.std.specs.List.{All};
 ghost use Rattle.history.specs.Limits.{actor_limit};
 ghost use Rattle.group_cells.specs.Opening.{AreHome, IsMadeBy};
 ghost use Rattle.thread_run.specs.Jobs.{IsReady, IsNewJob};
+ghost use Rattle.thread_run.specs.Homes.{AllSomewhere, AreAway, acts};
 
 use crate::job::Job;
 use actor_core::Actor;
-use board_script::Script;
+use board_script::{HOST, Script, WORKERS_FROM};
+use group_calls::ACTOR_LIMIT;
 use group_cells::KeyRing;
 use std::alloc::{AllocError as NoMemory, Global};
 
@@ -29,4 +32,40 @@ pub(crate) fn new_job(
     };
     let actor = Actor::new(alloc, script, who, 1)?;
     Ok(Job { actor, keys })
+}
+
+// A guest, a worker or the host of the script has this number.
+fn acts(script: &Script, who: u32) -> bool
+    ensures { result ≡ acts script.now who }
+{
+    let _queues = script.queues();
+    (1 <= who && who <= script.guests())
+        || (WORKERS_FROM <= who && who < WORKERS_FROM + script.workers())
+        || who == HOST
+}
+
+/// All actors of the script but the board, with their keys, which were never used.
+pub(crate) fn new_jobs(
+    alloc: Global,
+    script: &Script,
+    ring: &mut KeyRing,
+) -> Result<Vec<Job>, NoMemory>
+    requires made { IsMadeBy script.now ring.old.group }
+    requires home { AreHome ring.old.group 1 ring.old.keys }
+    requires all { AllSomewhere ring.old.keys [] }
+    ensures ready { IfOk result (λ jobs. All (λ job. IsReady script.now ring.old.group job.actor job.keys) jobs.items) }
+    ensures numbers { IfOk result (λ jobs. All (λ job. job.keys.who < actor_limit) jobs.items) }
+    ensures all { IfOk result (λ jobs. AllSomewhere ring.new.keys jobs.items) }
+    ensures away { OnOk result (AreAway script.now actor_limit ring.new.keys) }
+    ensures group { OnOk result (ring.new.group ≡ ring.old.group) }
+    ensures floors { OnOk result (ring.new.floors ≡ ring.old.floors) }
+{
+    let mut jobs = Vec::new(alloc);
+    for who in 1..ACTOR_LIMIT {
+        if acts(script, who) {
+            let job = new_job(alloc, script, ring, who)?;
+            jobs.push(job)?;
+        }
+    }
+    Ok(jobs)
 }
