@@ -1,10 +1,9 @@
 -- Keys that were never used, and an actor that has performed nothing.
-use Rattle.std.proofs.Common.{◌≡◌, ℕ, zero, suc, ◌+◌, ◌-◌, ◌<◌, ◌≤◌, List, [], ◌∷◌, ◌++◌, length, map, Option, None, Some, slice_get, sym, refl, ap, ◌∙◌, subst, arith}
+use Rattle.std.proofs.Common.{◌≡◌, ℕ, zero, suc, ◌+◌, ◌-◌, ◌<◌, List, [], ◌∷◌, ◌++◌, length, map, Option, Some, slice_get, sym, refl, ap, ◌∙◌, subst, arith}
 use Rattle.std.specs.Prelude.{replicate}
 use Rattle.std.proofs.lemmas.List.{length-map}
 use Rattle.std.proofs.lemmas.Option.{slice_get_within}
 use Rattle.turn_cell.specs.Passes.{Each}
-use Rattle.history.specs.declared.entry.Entry.{Entry}
 use Rattle.history.specs.Limits.{actor_limit}
 use Rattle.history.specs.Places.{calls_of}
 use Rattle.group_calls.specs.declared.member.MemberMade.{MemberMade}
@@ -13,16 +12,16 @@ use Rattle.group_calls.specs.declared.ask.Told.TheVariants.{Queue as FromQueue}
 use Rattle.group_calls.specs.Asks.{Exchange}
 use Rattle.board_script.specs.declared.script.Setup.{Setup}
 use Rattle.board_script.specs.Script.{Whole}
-use Rattle.group_cells.specs.Cells.{Seen, Sight, QueueSeen, MemberSeen, shows}
-use Rattle.group_cells.specs.Keys.{Site, Key, IsKeyOf, shown_by}
+use Rattle.group_cells.specs.Cells.{Seen, shows}
+use Rattle.group_cells.specs.Keys.{Site, Key, shown_by}
 use Rattle.group_cells.specs.Shared.{Sites, KeySet, AreKeysOf, IsKeySetOf, sight_of}
 use Rattle.group_cells.specs.Ring.{Floors, each_by, with_least, with_floors}
 use Rattle.group_cells.specs.Opening.{AreHome, IsMadeBy, IsFreshSet, made_from}
-use Rattle.journal.specs.Lines.{members_of, made_by, made_of, lines_of}
+use Rattle.journal.specs.Lines.{made_by, lines_of}
 use Rattle.actor_core.specs.declared.actor.Actor.{Actor}
 use Rattle.actor_core.specs.Found.{FitsActor}
 use Rattle.actor_core.specs.Actors.{StandsWhole}
-use Rattle.actor_drive.specs.Shown.{shown_of, queue_shown, member_shown, shown_journal, frame_of, AreCellsOf}
+use Rattle.actor_drive.specs.Shown.{shown_of, member_shown, frame_of, AreCellsOf}
 use Rattle.actor_drive.specs.Driven.{IsBeside}
 use Rattle.thread_run.specs.Jobs.{IsReady, IsNewJob}
 

@@ -1,4 +1,4 @@
-use Rattle.std.proofs.Common.{◌≡◌, ◌+◌, ◌<◌, ◌∷◌, ◌++◌, [], List, Option, None, length, All, sym, refl, ◌∙◌, ap, subst, arith}
+use Rattle.std.proofs.Common.{◌≡◌, ◌+◌, ◌<◌, ◌∷◌, ◌++◌, [], List, Option, None, All, sym, ◌∙◌, ap, subst, arith}
 use Rattle.std.specs.Prelude.{slice_set}
 use Rattle.std.proofs.lemmas.List.Elements.{All-push}
 use Rattle.history.specs.Limits.{actor_limit}
@@ -7,7 +7,7 @@ use Rattle.group_cells.specs.Ring.{Ring}
 use Rattle.group_cells.specs.Opening.{AreHome}
 use Rattle.thread_run.specs.declared.job.Job.{Job}
 use Rattle.thread_run.specs.Jobs.{IsReady}
-use Rattle.thread_run.specs.Homes.{AllSomewhere, AreAway, acts}
+use Rattle.thread_run.specs.Homes.{AllSomewhere, AreAway}
 use Rattle.thread_run.proofs.Gathers.{home_on, home_left, one_left, away_on, away_left}
 use Rattle.thread_run.proofs.starting.new_jobs.Goals.{then-acts+in_ok-job+in_ok-push, else-acts}
 use Rattle.thread_run.proofs.starting.new_jobs.Goals as goal
