@@ -79,7 +79,7 @@ module _ (h : Host) (s : Chain) (is : IsHost h) (serving : h.serving ≡ Some s)
   in_table : AreInTable m1 h.driver.layout ([] ++ pair_of s ∷ [])
   in_table = subst (λ (ps : List Pair). AreInTable m1 h.driver.layout ps) held stands_one.held_chains
 
-  descriptor_stays : descriptor m2 h.driver.layout s.head ≡ first_of (pair_of s)
+  descriptor_stays : descriptor m2 h.driver.layout.table s.head ≡ first_of (pair_of s)
   descriptor_stays =
       let place = placed_ring (length m1) h.driver.layout stands_one.lies in
       let a = place.avail in
@@ -88,9 +88,9 @@ module _ (h : Host) (s : Chain) (is : IsHost h) (serving : h.serving ≡ Some s)
       let before : SameBytes 0 h.driver.layout.used m1 m2 = subst (λ (m : List ℕ). SameBytes 0 h.driver.layout.used m1 m) (sym two_is) (rest_kept m1 h.driver r [] (pair_of s) [] count stands_one held small) in
       descriptor_same h.driver.layout s.head 0 h.driver.layout.used m1 m2 before (omega arith) (omega (arith, a, b, k)) ∙ in_table.0.first
 
-  pub command_at_head : (head addr : ℕ) → head ≡ s.head → addr ≡ (descriptor m2 h.layout head).addr → addr ≡ h.slots + 512 * key
+  pub command_at_head : (head addr : ℕ) → head ≡ s.head → addr ≡ (descriptor m2 h.layout.table head).addr → addr ≡ h.slots + 512 * key
   command_at_head head addr here e =
-      e ∙ ap (λ (l : Layout). (descriptor m2 l head).addr) (sym is.driven) ∙ ap (λ (k : ℕ). (descriptor m2 h.driver.layout k).addr) here ∙ ap (λ (x : Descriptor). x.addr) descriptor_stays ∙ of.command
+      e ∙ ap (λ (l : Layout). (descriptor m2 l.table head).addr) (sym is.driven) ∙ ap (λ (k : ℕ). (descriptor m2 h.driver.layout.table k).addr) here ∙ ap (λ (x : Descriptor). x.addr) descriptor_stays ∙ of.command
 
   pub head_fits : (head : ℕ) → head ≡ s.head → head < h.layout.size
   head_fits head here = let c = in_table.0.below in let e : h.driver.layout.size ≡ h.layout.size = ap (λ (l : Layout). l.size) is.driven in omega (arith, here, c, e)

@@ -196,7 +196,7 @@ module _ (made : MemberMade) (memory disk : List ℕ) (f : Facts) (q : ℕ) wher
   ring_leaves : (o : Option Layout) → Leaves (write_of_chain made.kind memory disk (next_chain memory f q o)) disk (ring_step made memory disk f q o)
   unfolding ring_step
   ring_leaves None = tt
-  ring_leaves (Some l) = found_leaves l (found memory l (f.position q))
+  ring_leaves (Some l) = found_leaves l (found false memory l (f.position q))
 
   abbrev ring : Option Layout
   ring = legacy_layout (page_number f.registers q) member_ring_size (length memory)

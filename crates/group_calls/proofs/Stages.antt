@@ -1,5 +1,5 @@
 -- The stages of a step, and memory and disk after one entry more: what each folded definition says.
-use Rattle.std.proofs.Common.{◌≡◌, ℕ, Bool, List, [], ◌∷◌, length, replicate, Some, None, refl}
+use Rattle.std.proofs.Common.{◌≡◌, ℕ, Bool, List, [], ◌∷◌, length, replicate, Some, None, refl, false}
 use Rattle.std.specs.Prelude.{◌==◌, ◌&&◌, not, nat_lt, if◌then◌else◌}
 use Rattle.ring_layout.specs.declared.layout.Layout.{Layout}
 use Rattle.ring_layout.specs.declared.descriptor.Descriptor.{Descriptor}
@@ -30,7 +30,7 @@ module _ (made : MemberMade) (memory disk : List ℕ) (f : Facts) (q : ℕ) wher
   unfolding ring_step
   ring_step-none = refl
 
-  pub ring_step-some : (l : Layout) → ring_step made memory disk f q (Some l) ≡ found_step made memory disk f q l (found memory l (f.position q))
+  pub ring_step-some : (l : Layout) → ring_step made memory disk f q (Some l) ≡ found_step made memory disk f q l (found false memory l (f.position q))
   unfolding ring_step
   ring_step-some l = refl
 

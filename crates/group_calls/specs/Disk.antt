@@ -1,11 +1,11 @@
 -- What is written to a disk, and what it holds then: VIRTIO 1.3, 5.2.6 (device operation of a block device).
-use Rattle.std.specs.Prelude.{ℕ, ◌+◌, ◌*◌, ◌==◌, ◌&&◌, Bool, List, [], ◌∷◌, Option, None, Some, drop, length, if◌then◌else◌}
+use Rattle.std.specs.Prelude.{ℕ, ◌+◌, ◌*◌, ◌==◌, ◌&&◌, Bool, List, [], ◌∷◌, Option, None, Some, drop, length, if◌then◌else◌, false}
 use Rattle.byte_fields.specs.Places.{le32, le64}
 use Rattle.byte_fields.specs.Sizes.{sector_size}
 use Rattle.ring_layout.specs.declared.layout.Layout.{Layout}
 use Rattle.ring_layout.specs.declared.descriptor.Descriptor.{Descriptor}
 use Rattle.ring_layout.specs.Layout.{legacy_layout}
-use Rattle.ring_layout.specs.Chain.{Found, nothing, bad_index, bad_chain, chain, found, readable_bytes, writable_part, total_length}
+use Rattle.ring_layout.specs.Chain.{Found, chain, found, readable_bytes, writable_part, total_length}
 use Rattle.blk_engine.specs.Block.{status_of}
 use Rattle.legacy_regs.specs.declared.device.Kind.{Kind}
 use Rattle.legacy_regs.specs.declared.device.Kind.TheVariants.{Block, Net}
@@ -36,7 +36,7 @@ found_chain _ = []
 -- those of the chain that a queue of this layout has next
 abbrev pub next_chain : List ℕ → Facts → ℕ → Option Layout → List Descriptor
 next_chain memory f q None = []
-next_chain memory f q (Some l) = found_chain (found memory l (f.position q))
+next_chain memory f q (Some l) = found_chain (found false memory l (f.position q))
 
 abbrev pub write_of_chain : Kind → List ℕ → List ℕ → List Descriptor → Option SectorWrite
 write_of_chain (Block sectors read_only) memory disk ds = write_of_request read_only disk (readable_bytes memory ds) (total_length (writable_part ds))

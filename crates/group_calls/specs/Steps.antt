@@ -91,7 +91,7 @@ found_step made memory disk f q l (chain ds) = chain_step made made.kind memory 
 
 unfoldable pub ring_step : MemberMade → List ℕ → List ℕ → Facts → ℕ → Option Layout → Outcome
 ring_step made memory disk f q None = stops (Halted Ring)
-ring_step made memory disk f q (Some l) = found_step made memory disk f q l (found memory l (f.position q))
+ring_step made memory disk f q (Some l) = found_step made memory disk f q l (found false memory l (f.position q))
 
 abbrev pub are_none : List (List ℕ) → Bool
 are_none [] = true

@@ -72,7 +72,7 @@ module _ (made : MemberMade) (memory disk : List ℕ) (f : Facts) (q : ℕ) wher
   ring_acts : (o : Option Layout) → Acts (ring_step made memory disk f q o)
   unfolding ring_step
   ring_acts None = refl
-  ring_acts (Some l) = found_acts l (found memory l (f.position q))
+  ring_acts (Some l) = found_acts l (found false memory l (f.position q))
 
   -- a queue that exists and is pending is served, or halts, or finds nothing
   idle_outcome : q < queue_count made.kind → outcome_reply (outcome made memory disk f q) ≡ NotPending → f.pending q ≡ false

@@ -101,7 +101,7 @@ module _ (made : MemberMade) (memory disk : List ℕ) (f : Facts) (q : ℕ) (sma
 
   ring_usual : (o : Option Layout) → Usual (ring_step made memory disk f q o)
   ring_usual None = subst Usual (sym (ring_step-none made memory disk f q)) (stopped f.registers (Halted Ring) tt tt)
-  ring_usual (Some l) = subst Usual (sym (ring_step-some made memory disk f q l)) (found_usual l (found memory l (f.position q)))
+  ring_usual (Some l) = subst Usual (sym (ring_step-some made memory disk f q l)) (found_usual l (found false memory l (f.position q)))
 
   pub outcome_usual : Usual (outcome made memory disk f q)
   outcome_usual = subst Usual (sym (outcome-is made memory disk f q)) (go (not (nat_lt q (queue_count made.kind) && f.pending q)) (receives made.kind q && are_none f.waiting))

@@ -1,5 +1,5 @@
 //! What a step does with a chain.
-ghost use Rattle.std.specs.Prelude.{◌≡◌, ◌<◌, ◌≤◌, ℕ, List, length, IfOk};
+ghost use Rattle.std.specs.Prelude.{◌≡◌, ◌<◌, ◌≤◌, ℕ, List, length, IfOk, false};
 ghost use Rattle.ring_layout.specs.Layout.{LiesIn};
 ghost use Rattle.ring_layout.specs.Chain.{found, available};
 ghost use Rattle.ring_device.specs.Buffers.{LieIn};
@@ -139,11 +139,11 @@ impl Stored {
         requires sized { IsSized self.now }
         requires ring { LiesIn (length self.now.memory) layout }
         ensures told { IfOk result (λ outcome. as_outcome self.now.memory self.now.disk (seen_facts seen.now) queue outcome
-            ≡ found_step self.now.made self.now.memory self.now.disk (seen_facts seen.now) queue layout (found self.now.memory layout ((seen_facts seen.now).position queue))) }
+            ≡ found_step self.now.made self.now.memory self.now.disk (seen_facts seen.now) queue layout (found false self.now.memory layout ((seen_facts seen.now).position queue))) }
         ensures ready { IfOk result (CanBeDone self.now.memory self.now.disk ((seen_facts seen.now).position queue)) }
     {
         let position = seen.queue(queue).position;
-        match next_chain(self.alloc, &self.memory, &layout, position)? {
+        match next_chain(self.alloc, &self.memory, &layout, position, false)? {
             Found::Chain(chain) => self.chain_step(seen, queue, layout, chain),
             Found::Empty => Ok(Outcome::Stops(MemberReply::Empty)),
             Found::Bad(Bad::Index) => Ok(Outcome::Stops(MemberReply::Halted(Halt::Index))),

@@ -148,7 +148,7 @@ impl Stored {
         ensures length { length self.new.memory ≡ length self.old.memory }
     {
         let writable = service.chain.writable();
-        prove!(writable <= 67_108_864);
+        prove!(writable < 134_217_728);
         let count = service.reply.as_slice().len() as u32;
         scatter(&mut self.memory, &service.chain, &service.reply);
         put_used(
@@ -217,9 +217,10 @@ impl Stored {
         ensures { result ≡ MemberReply.Served (length service.reply) (interrupt self.now.memory (seen_facts seen.old) queue service.layout) service.sent }
     {
         let writable = service.chain.writable();
-        prove!(writable <= 67_108_864);
+        prove!(writable < 134_217_728);
         let length = service.reply.as_slice().len() as u32;
-        let irq = if wants_interrupt(&self.memory, &service.layout) {
+        let position = seen.queue(queue).position;
+        let irq = if wants_interrupt(&self.memory, &service.layout, position, false) {
             seen.regs.raise(queue)
         } else {
             Irq::Silent

@@ -82,7 +82,7 @@ module _ (made : MemberMade) (memory disk : List ℕ) (f : Facts) (q : ℕ) (sma
 
   ring_usual : (o : Option Layout) → IsUsual q (ring_step made memory disk f q o)
   ring_usual None = subst (IsUsual q) (sym (ring_step-none made memory disk f q)) (halts_usual q (Halted Ring) tt refl)
-  ring_usual (Some l) = subst (IsUsual q) (sym (ring_step-some made memory disk f q l)) (found_usual l (found memory l (f.position q)))
+  ring_usual (Some l) = subst (IsUsual q) (sym (ring_step-some made memory disk f q l)) (found_usual l (found false memory l (f.position q)))
 
   pub outcome_usual : IsUsual q (outcome made memory disk f q)
   outcome_usual = subst (IsUsual q) (sym (outcome-is made memory disk f q)) (go (not (nat_lt q (queue_count made.kind) && f.pending q)) (receives made.kind q && are_none f.waiting))

@@ -1,5 +1,5 @@
 -- A step looks at the registers, the frames, and one queue's position and whether it is pending: facts that agree in these give the same outcome.
-use Rattle.std.proofs.Common.{◌≡◌, ℕ, Bool, List, [], ◌∷◌, length, Option, Some, None, refl, ap, ◌∙◌}
+use Rattle.std.proofs.Common.{◌≡◌, ℕ, Bool, List, [], ◌∷◌, length, Option, Some, None, refl, ap, ◌∙◌, false}
 use Rattle.std.specs.Prelude.{nat_lt, not, ◌&&◌, ◌==◌, if◌then◌else◌}
 use Rattle.ring_layout.specs.declared.layout.Layout.{Layout}
 use Rattle.ring_layout.specs.declared.descriptor.Descriptor.{Descriptor}
@@ -50,7 +50,7 @@ module _ (made : MemberMade) (memory disk : List ℕ) (f g : Facts) (q : ℕ)
   ring_alike : (o : Option Layout) → ring_step made memory disk f q o ≡ ring_step made memory disk g q o
   unfolding ring_step
   ring_alike None = refl
-  ring_alike (Some l) = found_alike l (found memory l (f.position q)) ∙ ap (λ (p : ℕ). found_step made memory disk g q l (found memory l p)) position
+  ring_alike (Some l) = found_alike l (found false memory l (f.position q)) ∙ ap (λ (p : ℕ). found_step made memory disk g q l (found false memory l p)) position
 
   abbrev layout_of : Registers → Option Layout
   layout_of r = legacy_layout (page_number r q) member_ring_size (length memory)

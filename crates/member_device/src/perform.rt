@@ -94,7 +94,7 @@ impl Device {
           memory = put_back self.old.memory position place.now reply.now;
         } }
     {
-        let wants = wants_interrupt(&self.memory, &place.layout);
+        let wants = wants_interrupt(&self.memory, &place.layout, position, false);
         let length = self.put(position, place, reply);
         let irq = self.interrupt(queue, wants);
         Used { length, irq }
@@ -108,7 +108,7 @@ impl Device {
         ensures left { self.new ≡ record self.old { memory = put_back self.old.memory position place.now reply.now } }
     {
         let limit = place.chain.writable();
-        prove!(limit <= 67_108_864);
+        prove!(limit < 134_217_728);
         let length = reply.as_slice().len() as u32;
         scatter(&mut self.memory, &place.chain, reply);
         let head = place.chain.head();

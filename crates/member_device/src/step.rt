@@ -1,5 +1,5 @@
 //! A step of a queue (VIRTIO 1.3, 2.7).
-ghost use Rattle.std.specs.Prelude.{◌≡◌, ◌<◌, nat_lt, true, not, ◌&&◌, length, IfOk, OnOk, OnErr};
+ghost use Rattle.std.specs.Prelude.{◌≡◌, ◌<◌, nat_lt, true, false, not, ◌&&◌, length, IfOk, OnOk, OnErr};
 ghost use Rattle.legacy_regs.specs.Registers.{queue_count};
 ghost use Rattle.ring_layout.specs.Layout.{LiesIn};
 ghost use Rattle.ring_layout.specs.Chain.{found};
@@ -79,10 +79,10 @@ impl Device {
         requires ring { LiesIn (length self.now.memory) layout }
         requires waits { receives self.now.made.kind queue ≡ true → 0 < length self.now.waiting }
         ensures plan { (f : Facts) → f.waiting ≡ self.now.waiting → IfOk result (λ plan. planned self.now f queue plan
-            ≡ found_step self.now.made self.now.memory self.now.disk f queue layout (found self.now.memory layout position)) }
+            ≡ found_step self.now.made self.now.memory self.now.disk f queue layout (found false self.now.memory layout position)) }
         ensures ready { IfOk result (IsReady self.now queue position) }
     {
-        match next_chain(self.alloc, &self.memory, &layout, position)? {
+        match next_chain(self.alloc, &self.memory, &layout, position, false)? {
             Found::Chain(chain) => self.plan_chain(queue, Place { layout, chain }),
             Found::Empty => Ok(Plan::Empty),
             Found::Bad(Bad::Index) => Ok(Plan::Halted(Halt::Index)),

@@ -1,5 +1,5 @@
 -- What a device is told, from the tests that it makes.
-use Rattle.std.proofs.Common.{◌≡◌, ℕ, ◌≤◌, ◌<◌, true, false, List, Option, Some, None, arith, refl, sym, ap, ◌∙◌}
+use Rattle.std.proofs.Common.{◌≡◌, ℕ, ◌≤◌, ◌<◌, Bool, true, false, List, Option, Some, None, arith, refl, sym, ap, ◌∙◌}
 use Rattle.std.specs.Prelude.{◌==◌, nat_lt, option_map}
 use Rattle.std.proofs.lemmas.Bool.Decides.{nat_tests}
 use Rattle.ring_layout.specs.declared.layout.Layout.{Layout}
@@ -15,20 +15,20 @@ use Rattle.ring_device.specs.declared.pair.PairFound.TheVariants.{Empty as NoPai
 
 -- ---- what is found
 
-pub found_nothing : (mem : List ℕ) (l : Layout) (pos : ℕ) → gap mem l pos ≡ 0 → found mem l pos ≡ nothing
+pub found_nothing : (indirect : Bool) (mem : List ℕ) (l : Layout) (pos : ℕ) → gap mem l pos ≡ 0 → found indirect mem l pos ≡ nothing
 unfolding found
-found_nothing mem l pos h = rw h refl
+found_nothing indirect mem l pos h = rw h refl
 
-pub found_bad_index : (mem : List ℕ) (l : Layout) (pos : ℕ) → ¬ (gap mem l pos ≡ 0) → l.size < gap mem l pos → found mem l pos ≡ bad_index
+pub found_bad_index : (indirect : Bool) (mem : List ℕ) (l : Layout) (pos : ℕ) → ¬ (gap mem l pos ≡ 0) → l.size < gap mem l pos → found indirect mem l pos ≡ bad_index
 unfolding found
-found_bad_index mem l pos some h =
+found_bad_index indirect mem l pos some h =
     let t : (gap mem l pos == 0) ≡ false = grind (arith, nat_tests, some) in
     let u : nat_lt l.size (gap mem l pos) ≡ true = grind (arith, nat_tests, h) in
     rw (t, u) refl
 
-pub found_as_chain : (mem : List ℕ) (l : Layout) (pos : ℕ) → ¬ (gap mem l pos ≡ 0) → gap mem l pos ≤ l.size → found mem l pos ≡ found_chain (chain_at mem l pos)
+pub found_as_chain : (indirect : Bool) (mem : List ℕ) (l : Layout) (pos : ℕ) → ¬ (gap mem l pos ≡ 0) → gap mem l pos ≤ l.size → found indirect mem l pos ≡ found_chain (chain_at indirect mem l pos)
 unfolding found
-found_as_chain mem l pos some h =
+found_as_chain indirect mem l pos some h =
     let t : (gap mem l pos == 0) ≡ false = grind (arith, nat_tests, some) in
     let u : nat_lt l.size (gap mem l pos) ≡ false = grind (arith, nat_tests, h) in
     rw (t, u) refl
@@ -43,17 +43,17 @@ told_none : (mem : List ℕ) (l : Layout) (pos : ℕ) (o : Option (List Descript
 told_none mem l pos None h = refl
 told_none mem l pos (Some c) h = cc
 
-pub answers_empty : (mem : List ℕ) (l : Layout) (pos : ℕ) → gap mem l pos ≡ 0 → Empty ≡ answer mem l pos
-answers_empty mem l pos h = ap (told mem l pos) (sym (found_nothing mem l pos h))
+pub answers_empty : (indirect : Bool) (mem : List ℕ) (l : Layout) (pos : ℕ) → gap mem l pos ≡ 0 → Empty ≡ answer indirect mem l pos
+answers_empty indirect mem l pos h = ap (told mem l pos) (sym (found_nothing indirect mem l pos h))
 
-pub answers_index : (mem : List ℕ) (l : Layout) (pos : ℕ) → ¬ (gap mem l pos ≡ 0) → l.size < gap mem l pos → Bad Index ≡ answer mem l pos
-answers_index mem l pos some h = ap (told mem l pos) (sym (found_bad_index mem l pos some h))
+pub answers_index : (indirect : Bool) (mem : List ℕ) (l : Layout) (pos : ℕ) → ¬ (gap mem l pos ≡ 0) → l.size < gap mem l pos → Bad Index ≡ answer indirect mem l pos
+answers_index indirect mem l pos some h = ap (told mem l pos) (sym (found_bad_index indirect mem l pos some h))
 
-pub answers_chain : (mem : List ℕ) (l : Layout) (pos : ℕ) (v : Buffers) → ¬ (gap mem l pos ≡ 0) → gap mem l pos ≤ l.size → Some v ≡ chain_buffers mem l pos → Chain v ≡ answer mem l pos
-answers_chain mem l pos v some fits h = sym (ap (told mem l pos) (found_as_chain mem l pos some fits) ∙ told_chain mem l pos (chain_at mem l pos) v h)
+pub answers_chain : (indirect : Bool) (mem : List ℕ) (l : Layout) (pos : ℕ) (v : Buffers) → ¬ (gap mem l pos ≡ 0) → gap mem l pos ≤ l.size → Some v ≡ chain_buffers indirect mem l pos → Chain v ≡ answer indirect mem l pos
+answers_chain indirect mem l pos v some fits h = sym (ap (told mem l pos) (found_as_chain indirect mem l pos some fits) ∙ told_chain mem l pos (chain_at indirect mem l pos) v h)
 
-pub answers_broken : (mem : List ℕ) (l : Layout) (pos : ℕ) → ¬ (gap mem l pos ≡ 0) → gap mem l pos ≤ l.size → (let none : Option Buffers = None in none ≡ chain_buffers mem l pos) → Bad BrokenChain ≡ answer mem l pos
-answers_broken mem l pos some fits h = sym (ap (told mem l pos) (found_as_chain mem l pos some fits) ∙ told_none mem l pos (chain_at mem l pos) h)
+pub answers_broken : (indirect : Bool) (mem : List ℕ) (l : Layout) (pos : ℕ) → ¬ (gap mem l pos ≡ 0) → gap mem l pos ≤ l.size → (let none : Option Buffers = None in none ≡ chain_buffers indirect mem l pos) → Bad BrokenChain ≡ answer indirect mem l pos
+answers_broken indirect mem l pos some fits h = sym (ap (told mem l pos) (found_as_chain indirect mem l pos some fits) ∙ told_none mem l pos (chain_at indirect mem l pos) h)
 
 -- ---- what is told of a pair
 
@@ -62,10 +62,10 @@ told_pair mem l pos None = refl
 told_pair mem l pos (Some c) = refl
 
 pub pairs_empty : (mem : List ℕ) (l : Layout) (pos : ℕ) → gap mem l pos ≡ 0 → NoPair ≡ pair_answer mem l pos
-pairs_empty mem l pos h = ap (pair_told mem l pos) (sym (found_nothing mem l pos h))
+pairs_empty mem l pos h = ap (pair_told mem l pos) (sym (found_nothing false mem l pos h))
 
 pub pairs_index : (mem : List ℕ) (l : Layout) (pos : ℕ) → ¬ (gap mem l pos ≡ 0) → l.size < gap mem l pos → Other ≡ pair_answer mem l pos
-pairs_index mem l pos some h = ap (pair_told mem l pos) (sym (found_bad_index mem l pos some h))
+pairs_index mem l pos some h = ap (pair_told mem l pos) (sym (found_bad_index false mem l pos some h))
 
-pub pairs_found : (mem : List ℕ) (l : Layout) (pos : ℕ) (p : PairFound) → ¬ (gap mem l pos ≡ 0) → gap mem l pos ≤ l.size → p ≡ pair_in (chain_buffers mem l pos) → p ≡ pair_answer mem l pos
-pairs_found mem l pos p some fits h = h ∙ told_pair mem l pos (chain_at mem l pos) ∙ ap (pair_told mem l pos) (sym (found_as_chain mem l pos some fits))
+pub pairs_found : (mem : List ℕ) (l : Layout) (pos : ℕ) (p : PairFound) → ¬ (gap mem l pos ≡ 0) → gap mem l pos ≤ l.size → p ≡ pair_in (chain_buffers false mem l pos) → p ≡ pair_answer mem l pos
+pairs_found mem l pos p some fits h = h ∙ told_pair mem l pos (chain_at false mem l pos) ∙ ap (pair_told mem l pos) (sym (found_as_chain false mem l pos some fits))

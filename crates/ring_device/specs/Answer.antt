@@ -1,5 +1,5 @@
 -- What a device is told of a position. Of this project.
-use Rattle.std.specs.Prelude.{ℕ, List}
+use Rattle.std.specs.Prelude.{ℕ, Bool, List}
 use Rattle.ring_layout.specs.declared.layout.Layout.{Layout}
 use Rattle.ring_layout.specs.Chain.{available, found, Found as RingFound, nothing, bad_index, bad_chain, chain as a_chain}
 use Rattle.ring_device.specs.Buffers.{LieIn}
@@ -14,8 +14,9 @@ told mem l pos bad_index = Bad Index
 told mem l pos bad_chain = Bad BrokenChain
 told mem l pos (a_chain c) = Chain record { head = available mem l pos; parts = c }
 
-abbrev pub answer : List ℕ → Layout → ℕ → Found
-answer mem l pos = told mem l pos (found mem l pos)
+-- what is told, where tables may be used or not
+abbrev pub answer : Bool → List ℕ → Layout → ℕ → Found
+answer indirect mem l pos = told mem l pos (found indirect mem l pos)
 
 -- the buffers of a chain that was found lie in a memory of this length
 abbrev pub LiesInside : ℕ → Found → Type 0

@@ -1,5 +1,5 @@
 -- What contracts see of a chain of descriptors. Of this project, over VIRTIO 1.3, 2.7.5.
-use Rattle.std.specs.Prelude.{◌≡◌, true, ℕ, List, Option, option_map}
+use Rattle.std.specs.Prelude.{◌≡◌, true, ℕ, Bool, List, Option, option_map}
 use Rattle.std.specs.List.{list_all}
 use Rattle.ring_layout.specs.declared.layout.Layout.{Layout}
 use Rattle.ring_layout.specs.declared.descriptor.Descriptor.{Descriptor}
@@ -14,6 +14,6 @@ pub record Buffers : Type 0 where
 abbrev pub LieIn : ℕ → List Descriptor → Type 0
 LieIn memory parts = list_all (is_inside memory) parts ≡ true
 
--- the head and the buffers of the chain at a position, if there is one
-abbrev pub chain_buffers : List ℕ → Layout → ℕ → Option Buffers
-chain_buffers mem l pos = option_map (λ c. record { head = available mem l pos; parts = c }) (chain_at mem l pos)
+-- the head and the buffers of the chain at a position, if there is one, where tables may be used or not
+abbrev pub chain_buffers : Bool → List ℕ → Layout → ℕ → Option Buffers
+chain_buffers indirect mem l pos = option_map (λ c. record { head = available mem l pos; parts = c }) (chain_at indirect mem l pos)

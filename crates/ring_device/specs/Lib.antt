@@ -1,5 +1,5 @@
 pub mod Buffers
-pub mod Kept
 pub mod Follow
+pub mod Kept
 pub mod Answer
 pub mod Pair

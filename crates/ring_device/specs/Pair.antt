@@ -1,5 +1,5 @@
 -- What a device is told of a position where it wants one buffer to read and one to write. Of this project.
-use Rattle.std.specs.Prelude.{ℕ, ◌+◌, ◌≤◌, not, ◌&&◌, List, [], ◌∷◌, Option, None, Some, if◌then◌else◌}
+use Rattle.std.specs.Prelude.{ℕ, ◌+◌, ◌≤◌, false, not, ◌&&◌, List, [], ◌∷◌, Option, None, Some, if◌then◌else◌}
 use Rattle.ring_layout.specs.declared.layout.Layout.{Layout}
 use Rattle.ring_layout.specs.declared.descriptor.Descriptor.{Descriptor}
 use Rattle.ring_layout.specs.Chain.{is_written, available, found, Found as RingFound, nothing, bad_index, bad_chain, chain as a_chain}
@@ -24,8 +24,9 @@ pair_told mem l pos bad_index = Other
 pair_told mem l pos bad_chain = Other
 pair_told mem l pos (a_chain c) = pair_of (available mem l pos) c
 
+-- no tables may be used
 abbrev pub pair_answer : List ℕ → Layout → ℕ → PairFound
-pair_answer mem l pos = pair_told mem l pos (found mem l pos)
+pair_answer mem l pos = pair_told mem l pos (found false mem l pos)
 
 -- both buffers of a pair lie in a memory of this length
 abbrev pub PairLiesIn : ℕ → PairFound → Type 0

@@ -3,6 +3,8 @@ ghost use Rattle.std.specs.Prelude.{◌≡◌, ◌+◌, ◌<◌, ◌≤◌, ◌^
 ghost use Rattle.ring_layout.specs.Chain.{total_length, readable_part, writable_part};
 ghost use Rattle.byte_fields.specs.Sizes.{memory_limit};
 ghost use Rattle.ring_device.specs.Buffers.{Buffers};
+ghost use Rattle.ring_device.specs.Follow.{any_written};
+ghost use Rattle.ring_device.specs.Kept.{buffer_limit};
 
 use bitflags::Flags;
 use ring_layout::{DescFlags, Descriptor};
@@ -15,6 +17,7 @@ use std::marker::Model;
 pub struct Chain {
     head: u16,
     parts: Vec<Descriptor>,
+    has_writable: bool,
     readable: u64,
     writable: u64,
 }
@@ -39,6 +42,7 @@ impl Chain {
         Chain {
             head,
             parts: Vec::new(alloc),
+            has_writable: false,
             readable: 0,
             writable: 0,
         }
@@ -46,7 +50,7 @@ impl Chain {
 
     /// One buffer more.
     pub(crate) fn push(&mut self, part: Descriptor) -> Result<(), NoMemory>
-        requires few { length self.old.parts < 256 }
+        requires few { length self.old.parts < buffer_limit }
         requires small { part.len ≤ memory_limit }
         ensures ok { OnOk result (self.new
             ≡ record { head = self.old.head; parts = self.old.parts ++ part ∷ [] }) }
@@ -55,11 +59,19 @@ impl Chain {
         self.parts.push(part)?;
         let length = u64::from(part.len);
         if part.flags.contains(DescFlags::WRITE) {
+            self.has_writable = true;
             self.writable += length;
         } else {
             self.readable += length;
         }
         Ok(())
+    }
+
+    /// Whether the device writes one of the buffers, be it empty.
+    pub(crate) fn has_writable(&self) -> bool
+        ensures { result ≡ any_written self.now.parts }
+    {
+        self.has_writable
     }
 
     /// The buffers in order.
@@ -76,18 +88,18 @@ impl Chain {
         self.head
     }
 
-    /// How many bytes the device may read: the buffers' lengths together, at most 2^26.
+    /// How many bytes the device may read: the buffers' lengths together, less than 2^27.
     pub fn readable(&self) -> u64
         ensures value { result ≡ total_length (readable_part self.now.parts) }
-        ensures bound { result ≤ 2 ^ 26 }
+        ensures bound { result < 2 ^ 27 }
     {
         self.readable
     }
 
-    /// How many bytes the device may write: the buffers' lengths together, at most 2^26.
+    /// How many bytes the device may write: the buffers' lengths together, less than 2^27.
     pub fn writable(&self) -> u64
         ensures value { result ≡ total_length (writable_part self.now.parts) }
-        ensures bound { result ≤ 2 ^ 26 }
+        ensures bound { result < 2 ^ 27 }
     {
         self.writable
     }

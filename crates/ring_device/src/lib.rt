@@ -2,9 +2,10 @@
 //! guest put into it, the reply back into it, the used ring, and whether an interrupt is wanted.
 //!
 //! It stands on `ring_layout`, whose words it speaks, on `guest_mem`, and on `board_text` for lists of bytes. Its main
-//! clause is that of `next_chain`: the answer exactly, whatever the guest wrote. `next_chain` and `gather` are the calls
-//! that take memory; both read each descriptor once and each byte once. A device reads before it writes: `gather` and
-//! `wants_interrupt` come before `scatter`, and `put_used` comes last.
+//! clause is that of `next_chain`: the answer exactly, whatever the guest wrote. Whether tables of descriptors and event
+//! indices are used is handed in. `next_chain` and `gather` are the calls that take memory; both read each descriptor once
+//! and each byte once. A device reads before it writes: `gather` and `wants_interrupt` come before `scatter`; `put_used`
+//! comes behind that, and `put_event` last.
 #![tactic(auto)]
 
 mod available;
@@ -21,4 +22,4 @@ pub use buffers::{gather, scatter};
 pub use chain::Chain;
 pub use next::{Bad, Found, next_chain};
 pub use pair::{PairFound, next_pair};
-pub use used::{put_used, wants_interrupt};
+pub use used::{put_event, put_used, wants_interrupt};

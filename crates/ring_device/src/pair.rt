@@ -1,15 +1,16 @@
 //! A chain of one buffer to read and one to write, which needs no list.
-ghost use Rattle.std.specs.Prelude.{◌≡◌, length, not, ◌&&◌};
+ghost use Rattle.std.specs.Prelude.{◌≡◌, false, length, not, ◌&&◌};
 ghost use Rattle.ring_layout.specs.Layout.{LiesIn};
-ghost use Rattle.ring_layout.specs.Chain.{has_next, is_written};
+ghost use Rattle.ring_layout.specs.Chain.{has_next, is_written, ring_table};
 ghost use Rattle.ring_device.specs.Buffers.{chain_buffers};
+ghost use Rattle.ring_device.specs.Follow.{buffer_after};
 ghost use Rattle.ring_device.specs.Pair.{pair_answer, pair_in, PairLiesIn};
 
 use crate::available::{gap, head_at_position};
-use crate::walk::buffer_at;
+use crate::walk::{Met, meet};
 use bitflags::Flags;
 use guest_mem::GuestMem;
-use ring_layout::{DescFlags, Descriptor, Layout};
+use ring_layout::{DescFlags, Descriptor, Layout, Table};
 
 /// What stands at a position, for a device that takes only pairs of buffers.
 #[derive(Clone, Copy, Debug, PartialEq, Eq)]
@@ -26,6 +27,17 @@ pub enum PairFound {
     Empty,
     /// Anything else: another chain, or a guest that broke a rule.
     Other,
+}
+
+// The buffer at an index of the ring's table, if there is one behind buffers to read.
+fn buffer_at(mem: &GuestMem, layout: &Layout, index: u16) -> Option<Descriptor>
+    requires { LiesIn (length mem.now) layout.now }
+    ensures { result ≡ buffer_after mem.now (ring_table layout.now) false index }
+{
+    match meet(mem, &Table::of_ring(mem, layout), false, index) {
+        Met::Buffer(part) => Some(part),
+        Met::Named(_) | Met::Nothing => None,
+    }
 }
 
 // Whether it is the first of a pair: a buffer to read, with another behind it.
@@ -45,17 +57,17 @@ fn is_second(part: &Descriptor) -> bool
 // The chain whose head stands at a position, if it is a pair.
 fn pair_at(mem: &GuestMem, layout: &Layout, pos: u16) -> PairFound
     requires { LiesIn (length mem.now) layout.now }
-    ensures pair { result ≡ pair_in (chain_buffers mem.now layout.now pos) }
+    ensures pair { result ≡ pair_in (chain_buffers false mem.now layout.now pos) }
     ensures inside { PairLiesIn (length mem.now) result }
 {
     let head = head_at_position(mem, layout, pos);
-    let Some(first) = buffer_at(mem, layout, false, head) else {
+    let Some(first) = buffer_at(mem, layout, head) else {
         return PairFound::Other;
     };
     if !is_first(&first) {
         return PairFound::Other;
     }
-    let Some(second) = buffer_at(mem, layout, false, first.next) else {
+    let Some(second) = buffer_at(mem, layout, first.next) else {
         return PairFound::Other;
     };
     if !is_second(&second) {
@@ -70,8 +82,8 @@ fn pair_at(mem: &GuestMem, layout: &Layout, pos: u16) -> PairFound
     }
 }
 
-/// What stands at a position (VIRTIO 1.3, 2.7.5 and 2.7.6), which runs modulo 65,536: the pair exactly where `next_chain`
-/// finds a chain of two descriptors, the first without `WRITE` and the second with it; `Empty` exactly where it finds
+/// What stands at a position (VIRTIO 1.3, 2.7.5 and 2.7.6), which runs modulo 65,536: the pair exactly where `next_chain`,
+/// without tables, finds a chain of two descriptors, the first without `WRITE` and the second with it; `Empty` exactly where it finds
 /// `Empty`; `Other` in every other case. It takes no memory.
 pub fn next_pair(mem: &GuestMem, layout: &Layout, pos: u16) -> PairFound
     requires { LiesIn (length mem.now) layout.now }

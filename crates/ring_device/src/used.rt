@@ -1,8 +1,8 @@
-//! The used ring (VIRTIO 1.3, 2.7.8), and whether an interrupt is wanted (2.7.7).
-ghost use Rattle.std.specs.Prelude.{◌≡◌, ◌++◌, length, not};
+//! The used ring (VIRTIO 1.3, 2.7.8), whether an interrupt is wanted (2.7.7), and which notification (2.7.10).
+ghost use Rattle.std.specs.Prelude.{◌≡◌, [], ◌∷◌, ◌++◌, length};
 ghost use Rattle.byte_fields.specs.Places.{bytes_of};
 ghost use Rattle.ring_layout.specs.Layout.{LiesIn};
-ghost use Rattle.ring_layout.specs.Chain.{used_writes, written, wants_no_interrupt};
+ghost use Rattle.ring_layout.specs.Chain.{used_writes, event_write, written, wants_interrupt as is_interrupt_wanted};
 
 use byteorder::{ByteOrder, LittleEndian};
 use guest_mem::GuestMem;
@@ -34,11 +34,27 @@ pub fn put_used(mem: &mut GuestMem, layout: &Layout, pos: u16, head: u16, count:
     mem.put_u16(layout.used + 2, pos.wrapping_add(1));
 }
 
-/// Whether the driver wants an interrupt when a chain is used: exactly where the flag `NO_INTERRUPT` of the available ring
-/// isn't set. It takes no memory.
-pub fn wants_interrupt(mem: &GuestMem, layout: &Layout) -> bool
+/// Whether the driver wants an interrupt when the chain at a position is used (VIRTIO 1.3, 2.7.7). `event` says whether event
+/// indices are used: then exactly where the driver left this position behind the entries of the available ring; else
+/// exactly where the flag `NO_INTERRUPT` of that ring isn't set. It takes no memory.
+pub fn wants_interrupt(mem: &GuestMem, layout: &Layout, pos: u16, event: bool) -> bool
     requires { LiesIn (length mem.now) layout.now }
-    ensures { result ≡ not (wants_no_interrupt mem.now layout.now) }
+    ensures { result ≡ is_interrupt_wanted event mem.now layout.now pos }
 {
-    mem.u16_at(layout.avail) & NO_INTERRUPT != NO_INTERRUPT
+    if event {
+        pos == mem.u16_at(layout.avail + 4 + 2 * u64::from(layout.size))
+    } else {
+        mem.u16_at(layout.avail) & NO_INTERRUPT != NO_INTERRUPT
+    }
+}
+
+/// Asks the driver for a notification of the next position (VIRTIO 1.3, 2.7.10): puts it behind the elements of the used
+/// ring. It takes no memory.
+pub fn put_event(mem: &mut GuestMem, layout: &Layout, pos: u16)
+    requires { LiesIn (length mem.old) layout.now }
+    ensures written { mem.new ≡ written (event_write layout.now pos ∷ []) mem.old }
+    ensures length { length mem.new ≡ length mem.old }
+{
+    let at = layout.used + 4 + 8 * u64::from(layout.size);
+    mem.put_u16(at, pos.wrapping_add(1));
 }

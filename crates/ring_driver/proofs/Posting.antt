@@ -95,13 +95,13 @@ module _ (m0 m1 m2 m3 : List ℕ) (d : Driver) (r : Ring) (rest : List ℕ) (h :
       (same_twice 0 l.table m1 m2 m3 (same_within 0 (l.table + 16 * (h + 1)) 0 l.table m1 m2 two.before (omega arith) (omega arith)) (same_within 0 l.avail 0 l.table m2 m3 three.before (omega arith) (omega (arith, a))))
 
   -- the posted chain
-  new_first : descriptor m3 l h ≡ first_of p
+  new_first : descriptor m3 l.table h ≡ first_of p
   new_first =
       let a = place.avail in
       let f = is_free.room in
       descriptor_same l h 0 l.avail m2 m3 three.before (omega arith) (omega (arith, a, f)) ∙ descriptor_same l h 0 (l.table + 16 * (h + 1)) m1 m2 two.before (omega arith) (omega arith) ∙ one.stands
 
-  new_second : descriptor m3 l (h + 1) ≡ second_of p
+  new_second : descriptor m3 l.table (h + 1) ≡ second_of p
   new_second =
       let a = place.avail in
       let f = is_free.room in

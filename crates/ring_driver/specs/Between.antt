@@ -40,8 +40,8 @@ second_of p = record { addr = p.writable.addr; len = p.writable.len; flags = rec
 pub record IsInTable (mem : List ℕ) (l : Layout) (p : Pair) : Type 0 where
   pub below : p.head + 2 ≤ l.size
   pub even : p.head % 2 ≡ 0
-  pub first : descriptor mem l p.head ≡ first_of p
-  pub second : descriptor mem l (p.head + 1) ≡ second_of p
+  pub first : descriptor mem l.table p.head ≡ first_of p
+  pub second : descriptor mem l.table (p.head + 1) ≡ second_of p
   pub readable : SpanLiesIn (length mem) p.readable
   pub writable : SpanLiesIn (length mem) p.writable
 

@@ -1,6 +1,6 @@
 //! What a device does to a ring, and what it finds: laws of the definitions alone, whose bodies are empty. And what follows
 //! from the types alone.
-ghost use Rattle.std.specs.Prelude.{◌≡◌, ◌+◌, ◌%◌, ◌<◌, ◌^◌, ◌++◌, [], ◌∷◌, ℕ, List, length};
+ghost use Rattle.std.specs.Prelude.{◌≡◌, ◌+◌, ◌%◌, ◌<◌, ◌^◌, ◌++◌, [], ◌∷◌, ℕ, List, false, length};
 ghost use Rattle.ring_layout.specs.Chain.{available, found, nothing, chain, used_writes, written, index_modulus};
 ghost use Rattle.ring_driver.specs.Driver.{Driver};
 ghost use Rattle.ring_driver.specs.Same.{SameBytes};
@@ -18,12 +18,12 @@ pub fn drivers_cross_threads() {
 /// At its position the device finds the chain that waits longest (VIRTIO 1.3, 2.7.5 and 2.7.6).
 pub fn a_posted_chain_is_found()
     ensures { (mem : List ℕ) (d : Driver) (r : Ring) (p : Pair) (ps : List Pair) → Stands mem d r → r.waiting ≡ p ∷ ps
-        → (available mem d.layout (r.fetched % index_modulus) ≡ p.head) × IsInTable mem d.layout p × (found mem d.layout (r.fetched % index_modulus) ≡ chain (first_of p ∷ second_of p ∷ [])) }
+        → (available mem d.layout (r.fetched % index_modulus) ≡ p.head) × IsInTable mem d.layout p × (found false mem d.layout (r.fetched % index_modulus) ≡ chain (first_of p ∷ second_of p ∷ [])) }
 {}
 
 /// Where no chain waits it finds no entry.
 pub fn nothing_is_found_where_none_waits()
-    ensures { (mem : List ℕ) (d : Driver) (r : Ring) → Stands mem d r → r.waiting ≡ [] → found mem d.layout (r.fetched % index_modulus) ≡ nothing }
+    ensures { (mem : List ℕ) (d : Driver) (r : Ring) → Stands mem d r → r.waiting ≡ [] → found false mem d.layout (r.fetched % index_modulus) ≡ nothing }
 {}
 
 /// A chain that it fetches is held, and nothing is written.

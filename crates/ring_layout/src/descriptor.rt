@@ -3,7 +3,8 @@ ghost use Rattle.std.specs.Prelude.{⊤, ◌≡◌, ◌<◌, [], ◌∷◌, leng
 ghost use Rattle.ring_layout.specs.Layout.{LiesIn};
 ghost use Rattle.ring_layout.specs.Chain.{descriptor};
 
-use crate::layout::{DESCRIPTOR_SIZE, Layout};
+use crate::layout::Layout;
+use crate::table::Table;
 use bitflags::{Flag, Flags, bitflag_items};
 use guest_mem::GuestMem;
 
@@ -56,18 +57,11 @@ pub struct Descriptor {
     pub next: u16,
 }
 
-/// The descriptor at an index of the table, as the memory holds it now.
-#[tactic(auto, unfolding(crate::specs::Chain::descriptor))]
+/// The descriptor at an index of the ring's table, as the memory holds it now.
 pub fn read_descriptor(mem: &GuestMem, layout: &Layout, index: u16) -> Descriptor
     requires layout { LiesIn (length mem.now) layout.now }
     requires index { index < layout.now.size }
-    ensures { result ≡ descriptor mem.now layout.now index }
+    ensures { result ≡ descriptor mem.now layout.now.table index }
 {
-    let at = layout.table + DESCRIPTOR_SIZE * u64::from(index);
-    Descriptor {
-        addr: mem.u64_at(at),
-        len: mem.u32_at(at + 8),
-        flags: DescFlags(mem.u16_at(at + 12)),
-        next: mem.u16_at(at + 14),
-    }
+    Table::of_ring(mem, layout).read(mem, index)
 }

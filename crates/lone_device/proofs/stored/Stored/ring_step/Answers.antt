@@ -1,4 +1,4 @@
-use Rattle.std.proofs.Common.{◌≡◌, ℕ, sym, ap, ◌∙◌, subst}
+use Rattle.std.proofs.Common.{◌≡◌, ℕ, sym, ap, ◌∙◌, subst, false}
 use Rattle.std.specs.Prelude.{IfOk}
 use Rattle.ring_layout.specs.Chain.{found}
 use Rattle.ring_device.specs.Answer.{answer}
@@ -16,9 +16,9 @@ returns-in-Chain-clause-told c =
     let d = c.args.self.now in
     let f = seen_facts c.args.seen.now in
     let p : ℕ = f.position c.args.queue in
-    let told : Chain c.in-Chain.chain ≡ answer d.memory c.args.layout p = sym c.in-Chain.is ∙ c.in_ok-chain.ensures.answer ∙ ap (λ (x : QueueSeen). answer d.memory c.args.layout x.position) c.queue-position.ensures in
+    let told : Chain c.in-Chain.chain ≡ answer false d.memory c.args.layout p = sym c.in-Chain.is ∙ c.in_ok-chain.ensures.answer ∙ ap (λ (x : QueueSeen). answer false d.memory c.args.layout x.position) c.queue-position.ensures in
     subst (λ (o : Outcome). IfOk c.chain_step.result (λ outcome. as_outcome d.memory d.disk f c.args.queue outcome ≡ o))
-    (found_chain d.made d.memory d.disk f c.args.queue c.args.layout p (found d.memory c.args.layout p) c.in-Chain.chain told)
+    (found_chain d.made d.memory d.disk f c.args.queue c.args.layout p (found false d.memory c.args.layout p) c.in-Chain.chain told)
     c.chain_step.ensures.told
 
 pub returns-in-Empty-clause-told : goal.returns-in-Empty-clause-told
@@ -26,23 +26,23 @@ returns-in-Empty-clause-told c =
     let d = c.args.self.now in
     let f = seen_facts c.args.seen.now in
     let p : ℕ = f.position c.args.queue in
-    let told : Empty ≡ answer d.memory c.args.layout p = sym c.in-Empty.is ∙ c.in_ok-chain.ensures.answer ∙ ap (λ (x : QueueSeen). answer d.memory c.args.layout x.position) c.queue-position.ensures in
-    found_nothing d.made d.memory d.disk f c.args.queue c.args.layout p (found d.memory c.args.layout p) told
+    let told : Empty ≡ answer false d.memory c.args.layout p = sym c.in-Empty.is ∙ c.in_ok-chain.ensures.answer ∙ ap (λ (x : QueueSeen). answer false d.memory c.args.layout x.position) c.queue-position.ensures in
+    found_nothing d.made d.memory d.disk f c.args.queue c.args.layout p (found false d.memory c.args.layout p) told
 
 pub returns-in-Bad-Index-clause-told : goal.returns-in-Bad-Index-clause-told
 returns-in-Bad-Index-clause-told c =
     let d = c.args.self.now in
     let f = seen_facts c.args.seen.now in
     let p : ℕ = f.position c.args.queue in
-    let told : Bad Index ≡ answer d.memory c.args.layout p =
-    sym (c.in-Bad-Index.is ∙ ap Bad c.in-Bad-Index.field-0-is) ∙ c.in_ok-chain.ensures.answer ∙ ap (λ (x : QueueSeen). answer d.memory c.args.layout x.position) c.queue-position.ensures in
-    found_bad_index d.made d.memory d.disk f c.args.queue c.args.layout p (found d.memory c.args.layout p) told
+    let told : Bad Index ≡ answer false d.memory c.args.layout p =
+    sym (c.in-Bad-Index.is ∙ ap Bad c.in-Bad-Index.field-0-is) ∙ c.in_ok-chain.ensures.answer ∙ ap (λ (x : QueueSeen). answer false d.memory c.args.layout x.position) c.queue-position.ensures in
+    found_bad_index d.made d.memory d.disk f c.args.queue c.args.layout p (found false d.memory c.args.layout p) told
 
 pub returns-in-Bad-Chain-clause-told : goal.returns-in-Bad-Chain-clause-told
 returns-in-Bad-Chain-clause-told c =
     let d = c.args.self.now in
     let f = seen_facts c.args.seen.now in
     let p : ℕ = f.position c.args.queue in
-    let told : Bad BrokenChain ≡ answer d.memory c.args.layout p =
-    sym (c.in-Bad-Chain.is ∙ ap Bad c.in-Bad-Chain.field-0-is) ∙ c.in_ok-chain.ensures.answer ∙ ap (λ (x : QueueSeen). answer d.memory c.args.layout x.position) c.queue-position.ensures in
-    found_bad_chain d.made d.memory d.disk f c.args.queue c.args.layout p (found d.memory c.args.layout p) told
+    let told : Bad BrokenChain ≡ answer false d.memory c.args.layout p =
+    sym (c.in-Bad-Chain.is ∙ ap Bad c.in-Bad-Chain.field-0-is) ∙ c.in_ok-chain.ensures.answer ∙ ap (λ (x : QueueSeen). answer false d.memory c.args.layout x.position) c.queue-position.ensures in
+    found_bad_chain d.made d.memory d.disk f c.args.queue c.args.layout p (found false d.memory c.args.layout p) told
