@@ -1,0 +1,10 @@
+pub mod Counts
+pub mod Tallies
+pub mod Registers
+pub mod Spared
+pub mod Tried
+pub mod Silent
+pub mod Read
+pub mod Totals
+pub mod Summary
+pub mod Loaded
