@@ -1,2 +1,15 @@
+mod Lists
+mod Order
+mod Views
+mod Made
 mod Starts
-mod Gathers
+mod Leaving
+mod Done
+mod Homing
+mod Ended
+mod Closed
+mod Own
+mod Others
+mod Together
+mod Summary
+mod Road

@@ -6,6 +6,7 @@ use Rattle.group_cells.specs.Ring.{Floors, with_floors}
 use Rattle.group_cells.specs.Opening.{IsFreshSet}
 use Rattle.journal.specs.Performing.{Performed}
 use Rattle.actor_core.specs.declared.actor.Actor.{Actor}
+use Rattle.actor_core.specs.Boards.{lines_now}
 use Rattle.actor_core.specs.Found.{FitsActor}
 use Rattle.actor_drive.specs.Shown.{frame_of, AreCellsOf}
 use Rattle.actor_drive.specs.Driven.{IsBeside, HasEnded, IsFurther, AreOnward}
@@ -22,6 +23,8 @@ pub record IsReady (s : Whole) (g : Sites) (a : Actor) (k : KeySet) : Type 0 whe
 pub record IsDone (s : Whole) (g : Sites) (a : Actor) (k : KeySet) (b : Actor) (l : KeySet) : Type 0 where
   pub fits : FitsActor s b
   pub number : b.performer.who ≡ a.performer.who
+  pub due : (v : Whole) (who : ℕ) → lines_now v who b.lines ≡ lines_now v who a.lines
+  pub short : b.short ≡ false → a.short ≡ false
   pub of : IsKeySetOf g l
   pub onward : AreOnward (sight_of k) (sight_of l)
   pub ended : (past : List Performed) → IsBeside s past a (sight_of k) → b.short ≡ false → (now : List Performed) × (HasEnded s now b (sight_of l) × IsFurther past now)

@@ -1,2 +1,4 @@
 pub mod Jobs
 pub mod Homes
+pub mod Through
+pub mod Runs

@@ -1,0 +1,11 @@
+pub mod Seen
+pub mod Heard
+pub mod Ordered
+pub mod Framed
+pub mod Chains
+pub mod Alone
+pub mod Told
+pub mod Performing
+pub mod Up
+pub mod Legal
+pub mod Idle
