@@ -1,3 +1,4 @@
-pub mod Stepping
 pub mod Headlined
+pub mod Running
 mod Putting
+mod Threading

@@ -6,3 +6,4 @@ pub mod Putting
 pub mod Reading
 pub mod Outcome
 pub mod Headline
+pub mod Threads

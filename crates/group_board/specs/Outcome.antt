@@ -20,13 +20,16 @@ abbrev pub IsFine : {A E : Type 0} → Result A E → Type 0
 IsFine (Ok output) = Unit {0}
 IsFine (Err first) = ⊥
 
-abbrev pub status_for : Result (List ℕ) At → Status
+abbrev pub status_for : {A : Type 0} → Result A At → Status
 status_for (Ok output) = Done
 status_for (Err first) = BadScript first.line first.cause
 
--- the status of a text where source and sink don't fail and there is memory
+-- the status of a text that reads so, where source and sink don't fail and there is memory
+abbrev pub status_read : {A : Type 0} → List ℕ → Result A At → Status
+status_read text read = if nat_lt text_limit (length text) then TooLong else status_for read
+
 abbrev pub status_of : Command → List ℕ → Status
-status_of command text = if nat_lt text_limit (length text) then TooLong else status_for (output_of command text)
+status_of command text = status_read text (output_of command text)
 
 -- Of a text that the source told, and of what the sink held and holds, where it tells.
 abbrev pub SaysOf : Command → Status → List ℕ → Option (List ℕ) → Option (List ℕ) → Type 0

@@ -8,7 +8,7 @@ ghost use Rattle.board_script.specs.declared.draft.Use.TheVariants as Use;
 ghost use Rattle.alone_run.specs.Transcript.{alone_text};
 ghost use Rattle.group_board.specs.Output.{output_for, output_of, step_text};
 ghost use Rattle.group_board.specs.Putting.{Makes};
-ghost use Rattle.group_board.specs.Headline.{HasHeadline, HasItsHeadline};
+ghost use Rattle.group_board.specs.Headline.{HasStepHeadline, HasItsHeadline};
 
 use crate::words::Command;
 use admin_run::run_admin;
@@ -50,7 +50,7 @@ fn alone(alloc: Global, text: &[u8]) -> Result<Bytes, ScriptFault>
 fn step(alloc: Global, text: &[u8]) -> Result<Output, ScriptFault>
     requires { length text.now < 2 ^ 32 - 1 }
     ensures made { Makes result (output_for step_text (script_of Use.Group text.now)) }
-    ensures headline { IfOk result (λ output. HasHeadline text.now) }
+    ensures headline { IfOk result (λ output. HasStepHeadline text.now) }
 {
     let script = read_script(alloc, text)?;
     match run_steps(alloc, &script) {

@@ -1,8 +1,9 @@
-//! The program: administration commands of a device group, and scripts of a guest, from the bytes that come in to the
-//! bytes that go out.
+//! The program: administration commands of a device group, and scripts of guests, from the bytes that come in to the bytes
+//! that go out.
 //!
-//! It stands on `admin_run` and `alone_run` for what each command does, and on `board_io` for the outside. Its main clauses
-//! are those of `board_once`: what is put out for an input, and when each status comes.
+//! It stands on `admin_run`, `alone_run`, `board_run`, `load_run` and `thread_run` for what each command does, and on
+//! `board_io` for the outside. Its main clauses are those of `board_once` and `board_threads`: what is put out for an input,
+//! and when each status comes.
 #![tactic(auto)]
 
 mod commands;
@@ -12,6 +13,9 @@ mod reading;
 mod status;
 #[cfg(test)]
 mod tests;
+#[cfg(test)]
+mod thread_tests;
+mod threads;
 mod top;
 mod words;
 mod writing;
@@ -22,6 +26,7 @@ pub use script_words::Cause;
 pub use status::{Status, code};
 use std::io;
 use std::process::ExitCode;
+pub use threads::board_threads;
 pub use top::{board, board_once};
 
 // The words after the program's name.

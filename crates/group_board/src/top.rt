@@ -1,21 +1,22 @@
 //! The top call, which does all that the program does.
-ghost use Rattle.std.specs.Prelude.{◌≡◌, ◌≤◌, ◌⊎◌, ◌↔◌, max, IfSome, Some, None};
+ghost use Rattle.std.specs.Prelude.{◌≡◌, ◌≤◌, ◌⊎◌, ◌↔◌, true, false, max, IfSome, Some, None};
 ghost use Rattle.board_io.specs.Faults.{Rose};
 ghost use Rattle.group_board.specs.Limits.{transfer_limit};
-ghost use Rattle.group_board.specs.Words.{IsBounded, command_named as named, load_named as named_load};
+ghost use Rattle.group_board.specs.Words.{IsBounded, command_named as named, is_run as are_run, load_named as named_load};
 ghost use Rattle.group_board.specs.Headline.{PutsHeadline};
 ghost use Rattle.group_board.specs.Outcome.{SaysOf, PutsOf, PutsNothing, ReadsToEnd, LoadSays, status_of};
+ghost use Rattle.group_board.specs.Threads.{RunSays, run_status};
 
 use crate::commands::perform;
-use crate::output::fault_text;
 use crate::reading::{ReadFailure, read_text};
 use crate::status::Status;
-use crate::words::{Command, Load, command_named, load_named};
-use crate::writing::{put_all, put_output};
+use crate::threads::board_threads;
+use crate::words::{Command, Load, command_named, is_run, load_named};
+use crate::writing::{put_all, put_made};
 use board_io::{Gate, PutAnswer, Sink, Source};
 use load_run::run_load;
-use script_words::ScriptFault;
 use std::alloc::Global;
+use std::sync::Wait;
 use std::thread::Threads;
 
 /// The longest input, in bytes.
@@ -53,20 +54,8 @@ fn answer_text<R: Source, W: Sink>(
         Err(ReadFailure::TooLong) => return Status::TooLong,
         Err(ReadFailure::NoMemory) => return Status::NoMemory,
     };
-    match perform(alloc, command, text.as_slice()) {
-        Ok(output) => match put_output(sink, &output) {
-            PutAnswer::Put => Status::Done,
-            PutAnswer::Failed => Status::WriteFault,
-        },
-        Err(ScriptFault::Bad { line, cause }) => match fault_text(alloc, line, cause) {
-            Ok(message) => match put_all(sink, message.as_bytes()) {
-                PutAnswer::Put => Status::BadScript { line, cause },
-                PutAnswer::Failed => Status::WriteFault,
-            },
-            Err(_) => Status::NoMemory,
-        },
-        Err(ScriptFault::NoMemory) => Status::NoMemory,
-    }
+    let made = perform(alloc, command, text.as_slice());
+    put_made(alloc, made, sink)
 }
 
 // Puts the summary of the run of a script that is made of a seed.
@@ -124,17 +113,17 @@ pub fn board_once<R: Source, W: Sink>(
     }
 }
 
-/// Performs the command that the words name, as `board_once` does. No command of several threads is there yet, so nothing
-/// waits: the call always returns.
-pub fn board<Rt: Threads + Sync, R: Source, W: Sink, G: Gate + Sync>(
-    _rt: &Rt,
+/// Performs the command that the words name: `run` as `board_threads` does, which may wait, and each other as `board_once`
+/// does.
+pub fn board<R: Source, W: Sink, G: Gate + Sync, Rt: Threads + Wait + Sync>(
+    rt: &Rt,
     alloc: Global,
     words: &[String],
     source: &mut R,
     sink: &mut W,
-    _gate: &G,
+    gate: &G,
 ) -> Status
-    ensures usage { (result ≡ Status.Usage) ↔ ((named words.now ≡ None) × (named_load words.now ≡ None)) }
+    ensures usage { (result ≡ Status.Usage) ↔ ((named words.now ≡ None) × (named_load words.now ≡ None) × (are_run words.now ≡ false)) }
     ensures untouched { result ≡ Status.Usage → (source.new ≡ source.old) × (sink.new ≡ sink.old) }
     ensures text { IfSome (R.left source.old) (λ text. IfSome (named words.now) (λ command. SaysOf command result text (W.held sink.old) (W.held sink.new))) }
     ensures headline { result ≡ Status.Done → PutsHeadline (named words.now) (R.left source.old) (W.held sink.old) (W.held sink.new) }
@@ -153,6 +142,14 @@ pub fn board<Rt: Threads + Sync, R: Source, W: Sink, G: Gate + Sync>(
     ensures load { IfSome (named_load words.now) (λ load. LoadSays load result (W.held sink.old) (W.held sink.new)) }
     ensures load_unread { IfSome (named_load words.now) (λ load. source.new ≡ source.old) }
     ensures load_complete { IfSome (named_load words.now) (λ load. (Rose (W.faults sink.old) (W.faults sink.new) → ⊥) → (result ≡ Status.Done) ⊎ (result ≡ Status.NoMemory)) }
+    ensures run { are_run words.now ≡ true → RunSays result (R.left source.old) (W.held sink.old) (W.held sink.new) }
+    ensures run_to_end { are_run words.now ≡ true → IfSome (R.left source.old) (λ text. ReadsToEnd result (R.left source.new)) }
+    ensures run_complete { are_run words.now ≡ true → IfSome (R.left source.old) (λ text.
+        (Rose (R.faults source.old) (R.faults source.new) → ⊥) → (Rose (W.faults sink.old) (W.faults sink.new) → ⊥)
+        → (result ≡ run_status text) ⊎ (result ≡ Status.NoMemory)) }
 {
+    if is_run(words) {
+        return board_threads(rt, alloc, words, source, sink, gate);
+    }
     board_once(alloc, words, source, sink)
 }
