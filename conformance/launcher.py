@@ -22,7 +22,7 @@ SECONDS = 60
 # Answers as the program does, as far as the cases ask: a text that begins with 'bad CAUSE' has a fault in line 2,
 # and every other is its own output.
 PROGRAM = """#!/usr/bin/env bash
-case "$#:${1-}" in 1:step | 1:admin | 1:alone) ;; *) echo "group_board: usage" >&2; exit 2 ;; esac
+case "$#:${1-}" in 1:step | 1:run | 1:admin | 1:alone) ;; *) echo "group_board: usage" >&2; exit 2 ;; esac
 text=$(cat; echo .); text=${text%.}
 [ "${#text}" -gt 1048576 ] && { echo "group_board: input too long" >&2; exit 7; }
 case "$text" in bad*) set -- $text; echo "bad line 2: $2"; exit 6 ;; esac
@@ -94,7 +94,7 @@ def no_words(place):
 
 def help_is_asked_for(place):
     status, output, error = place.run("--help")
-    texts = [b"step < ", b"admin < ", b"alone < ", b"--build", b"docs/formats.md"]
+    texts = [b"step < ", b"run < ", b"admin < ", b"alone < ", b"--build", b"docs/formats.md"]
     return expect(("status 0", status == 0), ("each command", all(it in output for it in texts)), ("no more", error == ""))
 
 

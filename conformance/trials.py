@@ -1,5 +1,5 @@
 #!/usr/bin/env python3
-"""The cases of tools/hostile and tools/fuzz: the built program passes a short trial, and what is wrong is told.
+"""The cases of tools/hostile, tools/fuzz and tools/threads: the built program passes a short trial, and what is wrong is told.
 
     conformance/trials.py PROGRAM [NAME..]
 
@@ -17,6 +17,8 @@ import reference
 TOP = os.path.dirname(os.path.dirname(os.path.abspath(__file__)))
 TOOLS = os.path.join(TOP, "tools")
 QUERY = os.path.join("examples", "list_query.admin")
+CROWD = os.path.join("examples", "side_by_side.script")
+TWO_GUESTS = os.path.join("examples", "hang_doorbell_too_early.script")
 SECONDS = 120
 sys.path.insert(0, TOOLS)
 from board_output import read_output  # noqa: E402
@@ -66,14 +68,19 @@ def passing_fault(program, name, *words):
     return None if status == 0 and output.endswith(", 0 differences\n") else f"status {status}, {output[-300:]!r}"
 
 
-def telling_fault(line, told, name, *words):
-    """What is wrong where the program is this line of shell, of which the tool has to tell something."""
+def tool_over(line, name, *words):
+    """The status and the output of a tool where the program is this line of shell."""
     with tempfile.TemporaryDirectory() as folder:
         program = os.path.join(folder, "program")
         with open(program, "w", encoding="ascii") as file:
             file.write(f"#!/bin/sh\n{line}\n")
         os.chmod(program, 0o755)
-        status, output = tool(name, "--program", program, *words)
+        return tool(name, "--program", program, *words)
+
+
+def telling_fault(line, told, name, *words):
+    """What is wrong where the program is this line of shell, of which the tool has to tell something."""
+    status, output = tool_over(line, name, *words)
     return None if status == 1 and re.search(told, output) and not output.endswith(" 0 differences\n") else f"status {status}, {output[-300:]!r}"
 
 
@@ -83,11 +90,19 @@ def cases(program):
         yield f"trial_tells_of_{name}", comparison_fault(change)
     few = ("--first", "40", "--more", "5", "admin", QUERY)
     yield "trial_passes_without_memory", passing_fault(program, "hostile", "memory", *few)
+    yield "trial_passes_run_without_memory", passing_fault(program, "hostile", "memory", "run", TWO_GUESTS)
     yield "trial_passes_with_failing_streams", passing_fault(program, "hostile", "streams", *few)
     yield "trial_passes_random_texts", passing_fault(program, "fuzz", "--count", "60")
     yield "trial_tells_of_memory_that_is_not_missed", telling_fault("read line; echo done", "memory, first 1, every 0: status", "hostile", "memory", *few)
     yield "trial_tells_of_a_read_that_is_not_missed", telling_fault("read line; echo done", "read, .*: status 0", "hostile", "streams", *few)
     yield "trial_tells_of_a_status", telling_fault("exit 3", "seed 1, case 0, [a-z]+: [a-z]+: status 3", "fuzz", "--count", "3")
+    yield "trial_passes_threads", passing_fault(program, "threads", "--count", "2")
+    yield "trial_passes_threads_on_one_processor", passing_fault(program, "threads", "--from", "2", "--count", "2", "--one-processor")
+    yield "trial_passes_without_threads", passing_fault(program, "hostile", "threads", "--first", "20", "--more", "4", "run", CROWD)
+    in_turn = f"case $1 in run) '{program}' step;; *) '{program}' $1;; esac"
+    yield "trial_passes_the_order_of_step", (None if tool_over(in_turn, "threads", "--count", "1")[0] == 0 else "the order of step is refused")
+    other = f"case $1 in run) '{program}' run | sed 's/ g1 complete / g2 complete /';; *) '{program}' $1;; esac"
+    yield "trial_tells_of_another_who_completes", telling_fault(other, "completes what another fetched", "threads", "--count", "3")
     swapped = f"'{program}' \"$@\" | sed 's/ -> served 1 / -> served 2 /'"
     yield "trial_tells_of_another_reply", telling_fault(swapped, "and the reference '", "fuzz", "--count", "12", "--share", "1")
 

@@ -29,7 +29,7 @@ class Answer:
 def compiled(folder):
     """The library that lets calls fail."""
     made = os.path.join(folder, "failing_calls.so")
-    subprocess.run(["cc", "-O1", "-Wall", "-shared", "-fPIC", "-o", made, os.path.join(HERE, "failing_calls.c")], check=True)
+    subprocess.run(["cc", "-O1", "-Wall", "-shared", "-fPIC", "-o", made, os.path.join(HERE, "failing_calls.c"), "-ldl"], check=True)
     return made
 
 

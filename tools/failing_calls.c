@@ -1,13 +1,16 @@
-/* Put before a program by LD_PRELOAD, it lets calls of one kind fail: allocations, reads of descriptor 0, or writes of
-   descriptor 1. built_program.py compiles and uses it. Its words come by the environment:
-     FAILING_KIND   memory, read or write
+/* Put before a program by LD_PRELOAD, it lets calls of one kind fail: allocations, reads of descriptor 0, writes of
+   descriptor 1, or starts of threads. Several threads may call at once. built_program.py compiles and uses it. Its words
+   come by the environment:
+     FAILING_KIND   memory, read, write or thread
      FAILING_FROM   the number of the first call that fails; calls of the kind are counted from 1 on
      FAILING_EVERY  0: that call alone; K: each K-th call from it on
      FAILING_ERROR  errno of a read or write that fails
      FAILING_PIECE  the most bytes that a read of descriptor 0 or a write of descriptor 1 moves, 0: as many as are asked for
      FAILING_TOLD   a descriptor of two longs, into which the calls of the kind and those that failed are counted */
 #define _GNU_SOURCE
+#include <dlfcn.h>
 #include <errno.h>
+#include <pthread.h>
 #include <stdlib.h>
 #include <string.h>
 #include <sys/mman.h>
@@ -21,6 +24,8 @@ extern void *__libc_memalign(size_t, size_t);
 
 static struct { long made, failed; } nowhere, *told = &nowhere;
 static const char *failing_kind = "";
+typedef int start_thread(pthread_t *, const pthread_attr_t *, void *(*)(void *), void *);
+static start_thread *start;
 static long first, every, error, piece;
 
 static long number(const char *name)
@@ -39,6 +44,7 @@ __attribute__((constructor)) static void begin(void)
     every = number("FAILING_EVERY");
     error = number("FAILING_ERROR");
     piece = number("FAILING_PIECE");
+    start = (start_thread *)dlsym(RTLD_NEXT, "pthread_create");
     failing_kind = getenv("FAILING_KIND") ? getenv("FAILING_KIND") : "";
 }
 
@@ -46,9 +52,9 @@ static int fails(const char *kind)
 {
     if (strcmp(kind, failing_kind))
         return 0;
-    long behind = ++told->made - first;
+    long behind = __atomic_add_fetch(&told->made, 1, __ATOMIC_SEQ_CST) - first;
     int does = first > 0 && (behind == 0 || (behind > 0 && every > 0 && behind % every == 0));
-    told->failed += does;
+    __atomic_add_fetch(&told->failed, does, __ATOMIC_SEQ_CST);
     return does;
 }
 
@@ -117,4 +123,9 @@ ssize_t write(int file, const void *bytes, size_t count)
 ssize_t __write(int file, const void *bytes, size_t count)
 {
     return write(file, bytes, count);
+}
+
+int pthread_create(pthread_t *thread, const pthread_attr_t *with, void *(*begin_at)(void *), void *given)
+{
+    return fails("thread") ? EAGAIN : start(thread, with, begin_at, given);
 }

@@ -165,7 +165,7 @@ class Guest:
 def worker_lines(rng, worker, guests, queues):
     lines = []
     for _ in range(rng.randrange(8)):
-        poll = f"poll {rng.randint(1, len(guests))} {rng.choice((0, 0, 1, 2))}"
+        poll = f"poll {rng.choice(guests).number} {rng.choice((0, 0, 1, 2))}"
         lines.append(f"w{worker} {f'serve {rng.randrange(queues)}' if rng.random() < 0.6 else poll}")
     return lines
 
@@ -212,4 +212,20 @@ def random_script(rng):
     parts += [worker_lines(rng, it, guests, queues) for it in range(workers)] + [host_lines(rng, guests)]
     actors = [it.name for it in guests] + [f"w{it}" for it in range(workers)] + ["host"]
     lines = [f"board {queues} {size} {workers}", *(it.line() for it in guests), *merged(rng, parts + [schedule(rng, actors)])]
+    return "\n".join(lines) + "\n"
+
+
+def crowded_script(rng):
+    """Sixteen guests, eight workers and the host on one board. The workers poll a few members alone, and the host does
+    something to these alone, but where it resets the group, and mostly no guest gives up at a full queue: so most guests'
+    answers don't depend on the order of calls."""
+    queues, size, is_calm = rng.choice((1, 2, 3, 8)), rng.choice((4, 4, 8, 256)), rng.random() < 0.8
+    guests = [Guest(rng, number, True) for number in range(1, 17)]
+    shared = rng.sample(guests, rng.choice((1, 2, 4)))
+    parts = [it.live(queues) for it in guests]
+    parts += [worker_lines(rng, it, shared, queues) for it in range(8)]
+    parts.append([it for it in host_lines(rng, shared) if it != "host reset" or rng.random() < 0.3])
+    lines = [f"board {queues} {size} 8", *(it.line() for it in guests), *merged(rng, parts)]
+    if is_calm:
+        lines = [it.removesuffix(" once") for it in lines]
     return "\n".join(lines) + "\n"
