@@ -14,7 +14,7 @@ use crate::within::is_of_group;
 use actor_core::Actor;
 use board_io::Gate;
 use board_script::Script;
-use group_calls::{Ask, Told};
+use group_calls::{Ask, RingReply, Told};
 use group_cells::{Asked, Cells};
 use std::sync::Wait;
 use std::thread;
@@ -42,6 +42,14 @@ fn try_ask<C: Cells>(cells: &mut C, ask: &Ask) -> Option<Told>
             Asked::Busy { word: _ } => None,
             Asked::NoMemory => Some(Told::NoMemory),
         },
+    }
+}
+
+// A queue serves another command: whoever fetched it has to go on first.
+fn is_in_service(told: &Told) -> bool {
+    match told {
+        Told::Queue(placed) => matches!(placed.reply, RingReply::InService { .. }),
+        _ => false,
     }
 }
 
@@ -75,7 +83,8 @@ fn perform<C: Cells, G: Gate, R: Wait>(
 }
 
 /// Performs the asks of an actor until its lines have ended. The gate is called before each ask, and again where a cell was
-/// busy. It may wait. An actor that is short of memory goes on, too, as far as it asks for what the group has.
+/// busy. It may wait, and its thread yields where a cell was busy or a queue serves another command. An actor that is short
+/// of memory goes on, too, as far as it asks for what the group has.
 pub fn drive<C: Cells, G: Gate, R: Wait>(
     rt: &R,
     script: &Script,
@@ -108,6 +117,9 @@ pub fn drive<C: Cells, G: Gate, R: Wait>(
             return;
         }
         let told = perform(rt, script, who, ask, cells, gate);
+        if is_in_service(&told) {
+            thread::yield_now();
+        }
         actor.feed(told);
     }
     unreachable!()
