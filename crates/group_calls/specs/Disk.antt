@@ -1,5 +1,5 @@
 -- What is written to a disk, and what it holds then: VIRTIO 1.3, 5.2.6 (device operation of a block device).
-use Rattle.std.specs.Prelude.{ℕ, ◌+◌, ◌*◌, ◌==◌, ◌&&◌, Bool, List, [], ◌∷◌, Option, None, Some, drop, length, if◌then◌else◌, false}
+use Rattle.std.specs.Prelude.{ℕ, ◌+◌, ◌*◌, ◌==◌, ◌&&◌, Bool, List, [], ◌∷◌, Option, None, Some, drop, length, if◌then◌else◌}
 use Rattle.byte_fields.specs.Places.{le32, le64}
 use Rattle.byte_fields.specs.Sizes.{sector_size}
 use Rattle.ring_layout.specs.declared.layout.Layout.{Layout}
@@ -9,7 +9,7 @@ use Rattle.ring_layout.specs.Chain.{Found, chain, found, readable_bytes, writabl
 use Rattle.blk_engine.specs.Block.{status_of}
 use Rattle.legacy_regs.specs.declared.device.Kind.{Kind}
 use Rattle.legacy_regs.specs.declared.device.Kind.TheVariants.{Block, Net}
-use Rattle.legacy_regs.specs.Registers.{member_ring_size, page_number}
+use Rattle.legacy_regs.specs.Registers.{member_ring_size, page_number, uses_tables}
 use Rattle.legacy_regs.specs.Accesses.{byte_put}
 use Rattle.history.specs.Look.{latest_or}
 use Rattle.group_calls.specs.Facts.{Facts}
@@ -36,7 +36,7 @@ found_chain _ = []
 -- those of the chain that a queue of this layout has next
 abbrev pub next_chain : List ℕ → Facts → ℕ → Option Layout → List Descriptor
 next_chain memory f q None = []
-next_chain memory f q (Some l) = found_chain (found false memory l (f.position q))
+next_chain memory f q (Some l) = found_chain (found (uses_tables f.registers) memory l (f.position q))
 
 abbrev pub write_of_chain : Kind → List ℕ → List ℕ → List Descriptor → Option SectorWrite
 write_of_chain (Block sectors read_only) memory disk ds = write_of_request read_only disk (readable_bytes memory ds) (total_length (writable_part ds))

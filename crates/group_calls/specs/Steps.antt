@@ -3,14 +3,14 @@ use Rattle.std.specs.Prelude.{ℕ, ◌==◌, nat_lt, Bool, true, false, not, ◌
 use Rattle.ring_layout.specs.declared.layout.Layout.{Layout}
 use Rattle.ring_layout.specs.declared.descriptor.Descriptor.{Descriptor}
 use Rattle.ring_layout.specs.Layout.{legacy_layout}
-use Rattle.ring_layout.specs.Chain.{Found, nothing, bad_index, bad_chain, chain, found, available, writable_part, total_length, readable_bytes, Write, scattered, used_writes, wants_no_interrupt}
+use Rattle.ring_layout.specs.Chain.{Found, nothing, bad_index, bad_chain, chain, found, available, writable_part, total_length, readable_bytes, Write, scattered, used_writes, event_write, wants_interrupt}
 use Rattle.blk_engine.specs.Block.{is_malformed, block_reply, disk_after_request}
 use Rattle.net_engine.specs.Frames.{with_header, transmitted}
 use Rattle.legacy_regs.specs.declared.device.Kind.{Kind}
 use Rattle.legacy_regs.specs.declared.device.Kind.TheVariants.{Block, Net}
 use Rattle.legacy_regs.specs.declared.interrupts.Irq.{Irq}
 use Rattle.legacy_regs.specs.declared.interrupts.Irq.TheVariants.{Silent}
-use Rattle.legacy_regs.specs.Registers.{member_ring_size, queue_count, page_number}
+use Rattle.legacy_regs.specs.Registers.{member_ring_size, queue_count, page_number, uses_tables, uses_events}
 use Rattle.legacy_regs.specs.Interrupts.{queue_irq}
 use Rattle.group_calls.specs.declared.member.MemberMade.{MemberMade}
 use Rattle.group_calls.specs.declared.member.Halt.TheVariants.{Ring, Index, Chain, Request}
@@ -32,19 +32,23 @@ pub data Outcome : Type 0 where
   stops : MemberReply → Outcome
   serves : Service → Outcome
 
--- ---- a service of a chain: VIRTIO 1.3, 2.7.8 (used ring), 2.7.7 (used buffer notification suppression)
+-- ---- a service of a chain: VIRTIO 1.3, 2.7.8 (used ring), 2.7.7 (used buffer notification suppression), 2.7.10 (available buffer notification suppression)
 
--- the queue's interrupt, unless the guest wants none
+-- the queue's interrupt, where the guest wants one for the queue's position
 abbrev pub interrupt : List ℕ → Facts → ℕ → Layout → Irq
-interrupt memory f q l = if wants_no_interrupt memory l then Silent else queue_irq f.registers q
+interrupt memory f q l = if wants_interrupt (uses_events f.registers) memory l (f.position q) then queue_irq f.registers q else Silent
 
--- the reply goes into the writable buffers from their front; then the head and the reply's length into the used ring, and then its index
+-- the next position is named as the one to notify of, where event indices are used
+abbrev pub event_writes : Facts → ℕ → Layout → List Write
+event_writes f q l = if uses_events f.registers then event_write l (f.position q) ∷ [] else []
+
+-- the reply goes into the writable buffers from their front; then the head and the reply's length into the used ring, then its index, and then the position to notify of
 unfoldable pub service : List ℕ → Facts → ℕ → Layout → List Descriptor → List ℕ → List ℕ → List ℕ → Outcome
 service memory f q l ds reply disk sent =
     let p : ℕ = f.position q in
     serves record {
       reply = reply;
-      writes = scattered (writable_part ds) reply ++ used_writes l p (available memory l p) (length reply);
+      writes = scattered (writable_part ds) reply ++ used_writes l p (available memory l p) (length reply) ++ event_writes f q l;
       disk = disk;
       sent = sent;
       irq = interrupt memory f q l;
@@ -91,7 +95,7 @@ found_step made memory disk f q l (chain ds) = chain_step made made.kind memory 
 
 unfoldable pub ring_step : MemberMade → List ℕ → List ℕ → Facts → ℕ → Option Layout → Outcome
 ring_step made memory disk f q None = stops (Halted Ring)
-ring_step made memory disk f q (Some l) = found_step made memory disk f q l (found false memory l (f.position q))
+ring_step made memory disk f q (Some l) = found_step made memory disk f q l (found (uses_tables f.registers) memory l (f.position q))
 
 abbrev pub are_none : List (List ℕ) → Bool
 are_none [] = true

@@ -1,5 +1,6 @@
 -- What the legacy registers of a device hold, and what a guest reads of them, with VIRTIO 1.3 as the standard.
-use Rattle.std.specs.Prelude.{ℕ, ◌^◌, nat_lt, Bool, false, if◌then◌else◌, List, [], ◌∷◌, ◌++◌, length, map, replicate, slice_index_or}
+use Rattle.std.specs.Prelude.{ℕ, ◌^◌, ◌==◌, nat_lt, Bool, false, if◌then◌else◌, List, [], ◌∷◌, ◌++◌, length, map, replicate, slice_index_or}
+use Rattle.std.specs.Int.RustNames.{bit_and}
 use Rattle.std.specs.List.{sum_by}
 use Rattle.byte_fields.specs.Places.{le16, le32, bytes_of}
 use Rattle.byte_fields.specs.Sizes.{sector_size}
@@ -77,15 +78,38 @@ flr_of kind r = record (initial_registers kind) { msix = r.msix }
 
 -- ---- what a guest reads
 
--- the numbers of the feature bits that a device offers: 2.2, 5.2.3, 5.1.3 and 6.3
+-- INDIRECT_DESC, by which a chain may have a table of descriptors, and EVENT_IDX, by which either side names the
+-- position that it wants to hear of: 6
+abbrev pub indirect_bit : ℕ
+indirect_bit = 28
+
+abbrev pub event_bit : ℕ
+event_bit = 29
+
+-- the numbers of the feature bits that a device offers: 2.2, 5.2.3, 5.1.3, 6 and 6.3
 abbrev pub offered_bits : Kind → List ℕ
 -- RO 5, BLK_SIZE 6, FLUSH 9, CONFIG_WCE 11, ANY_LAYOUT 27
-offered_bits (Block sectors read_only) = (if read_only then 5 ∷ [] else []) ++ 6 ∷ 9 ∷ 11 ∷ 27 ∷ []
+offered_bits (Block sectors read_only) = (if read_only then 5 ∷ [] else []) ++ 6 ∷ 9 ∷ 11 ∷ 27 ∷ indirect_bit ∷ event_bit ∷ []
 -- MAC 5, STATUS 16, ANY_LAYOUT 27
-offered_bits (Net mac) = 5 ∷ 16 ∷ 27 ∷ []
+offered_bits (Net mac) = 5 ∷ 16 ∷ 27 ∷ indirect_bit ∷ event_bit ∷ []
 
 abbrev pub device_features : Kind → ℕ
 device_features kind = sum_by (λ bit. 2 ^ bit) (offered_bits kind)
+
+-- the driver's features, as a number: 4.1.4.10
+abbrev pub driver_features : Registers → ℕ
+driver_features r = le32 0 r.features
+
+-- whether the driver has set a bit in them: 2.2
+abbrev pub is_accepted : ℕ → Registers → Bool
+is_accepted bit r = bit_and (driver_features r) (2 ^ bit) == 2 ^ bit
+
+-- whether chains may have tables, and whether both sides name positions: 6
+abbrev pub uses_tables : Registers → Bool
+uses_tables r = is_accepted indirect_bit r
+
+abbrev pub uses_events : Registers → Bool
+uses_events r = is_accepted event_bit r
 
 -- the number of the selected queue: 4.1.5.1.3.1
 abbrev pub selected : Registers → ℕ

@@ -1,6 +1,6 @@
 //! The feature bits that a device offers: VIRTIO 1.3, 2.2.
-ghost use Rattle.std.specs.Prelude.{⊤, ◌≡◌, [], ◌∷◌, codes};
-ghost use Rattle.legacy_regs.specs.Registers.{device_features};
+ghost use Rattle.std.specs.Prelude.{⊤, ◌≡◌, ◌^◌, ◌+◌, [], ◌∷◌, codes};
+ghost use Rattle.legacy_regs.specs.Registers.{device_features, indirect_bit, event_bit};
 
 use crate::device::Kind;
 use bitflags::{Flag, Flags};
@@ -31,6 +31,12 @@ impl Features {
     /// A device takes descriptors of any layout: VIRTIO 1.3, 6.3.
     pub const ANY_LAYOUT: Features = Features(1 << 27);
 
+    /// A chain may have a table of descriptors: VIRTIO 1.3, 6.
+    pub const INDIRECT_DESC: Features = Features(1 << 28);
+
+    /// Device and driver each name the position that they want to hear of: VIRTIO 1.3, 6.
+    pub const EVENT_IDX: Features = Features(1 << 29);
+
     const NAMED: &'static [Flag<Features>] = &[
         Flag {
             name: "BLK_RO",
@@ -60,6 +66,14 @@ impl Features {
             name: "ANY_LAYOUT",
             value: Features::ANY_LAYOUT,
         },
+        Flag {
+            name: "INDIRECT_DESC",
+            value: Features::INDIRECT_DESC,
+        },
+        Flag {
+            name: "EVENT_IDX",
+            value: Features::EVENT_IDX,
+        },
     ];
 }
 
@@ -68,7 +82,7 @@ impl Flags for Features {
 
     ghost exact = { ⊤ };
 
-    ghost table = { (codes "BLK_RO", 32) ∷ (codes "BLK_SIZE", 64) ∷ (codes "BLK_FLUSH", 512) ∷ (codes "BLK_CONFIG_WCE", 2048) ∷ (codes "NET_MAC", 32) ∷ (codes "NET_STATUS", 65536) ∷ (codes "ANY_LAYOUT", 134217728) ∷ [] };
+    ghost table = { (codes "BLK_RO", 32) ∷ (codes "BLK_SIZE", 64) ∷ (codes "BLK_FLUSH", 512) ∷ (codes "BLK_CONFIG_WCE", 2048) ∷ (codes "NET_MAC", 32) ∷ (codes "NET_STATUS", 65536) ∷ (codes "ANY_LAYOUT", 134217728) ∷ (codes "INDIRECT_DESC", 268435456) ∷ (codes "EVENT_IDX", 536870912) ∷ [] };
 
     ghost set_of = { λ f. f.0 };
 
@@ -96,13 +110,22 @@ pub(crate) fn device_features(kind: &Kind) -> u32
     offered.bits()
 }
 
+// What a device of either kind offers.
+fn every_device() -> Features
+    ensures { result.0 ≡ 2 ^ 27 + 2 ^ indirect_bit + 2 ^ event_bit }
+{
+    Features::ANY_LAYOUT
+        .union(Features::INDIRECT_DESC)
+        .union(Features::EVENT_IDX)
+}
+
 fn block_features(read_only: bool) -> Features
     ensures { result.0 ≡ device_features (Kind.Block 0 read_only) }
 {
     let always = Features::BLK_SIZE
         .union(Features::BLK_FLUSH)
         .union(Features::BLK_CONFIG_WCE)
-        .union(Features::ANY_LAYOUT);
+        .union(every_device());
     if read_only {
         always.union(Features::BLK_RO)
     } else {
@@ -115,5 +138,5 @@ fn net_features() -> Features
 {
     Features::NET_MAC
         .union(Features::NET_STATUS)
-        .union(Features::ANY_LAYOUT)
+        .union(every_device())
 }

@@ -1,7 +1,7 @@
 //! Laws of the registers, which need no code.
 ghost use Rattle.std.specs.Prelude.{◌≡◌, ◌^◌};
 ghost use Rattle.legacy_regs.specs.Laws.{ReplacesItsBytes, LeavesOthers, KeepsReadOnly};
-ghost use Rattle.legacy_regs.specs.Registers.{member_ring_size};
+ghost use Rattle.legacy_regs.specs.Registers.{member_ring_size, indirect_bit, event_bit};
 
 use crate::MEMBER_RING_SIZE;
 use crate::features::Features;
@@ -23,7 +23,7 @@ pub fn sizes()
     ensures { MEMBER_RING_SIZE ≡ member_ring_size }
 {}
 
-/// The feature bits that callers read are those of VIRTIO 1.3, 5.2.3, 5.1.3 and 6.3.
+/// The feature bits that callers read are those of VIRTIO 1.3, 5.2.3, 5.1.3, 6 and 6.3.
 pub fn feature_bits()
     ensures read_only { Features.BLK_RO.0 ≡ 2 ^ 5 }
     ensures block_size { Features.BLK_SIZE.0 ≡ 2 ^ 6 }
@@ -32,6 +32,8 @@ pub fn feature_bits()
     ensures mac { Features.NET_MAC.0 ≡ 2 ^ 5 }
     ensures status { Features.NET_STATUS.0 ≡ 2 ^ 16 }
     ensures any_layout { Features.ANY_LAYOUT.0 ≡ 2 ^ 27 }
+    ensures indirect { Features.INDIRECT_DESC.0 ≡ 2 ^ indirect_bit }
+    ensures events { Features.EVENT_IDX.0 ≡ 2 ^ event_bit }
 {}
 
 fn crosses<T: Send + Sync>() {}

@@ -8,7 +8,7 @@ use crate::MEMBER_RING_SIZE;
 use crate::accesses::{Effect, Field, Space};
 use crate::bytes::{byte_put, put};
 use crate::device::{Kind, queue_count};
-use crate::features::device_features;
+use crate::features::{Features, device_features};
 use crate::field_bytes::FieldBytes;
 use crate::fields::{
     DEVICE_STATUS, ISR, MAC, QUEUE_ADDRESS, QUEUE_NOTIFY, WRITEBACK, is_refused_read,
@@ -19,6 +19,7 @@ use crate::interrupts::Irq;
 use crate::numbers::{bytes_of_16, bytes_of_32, bytes_of_64, read_16, read_32};
 use crate::state::{NO_QUEUE, NO_VECTOR, QueueState, State};
 use arrayvec::ArrayVec;
+use bitflags::Flags;
 use board_text::Piece;
 use std::marker::Model;
 
@@ -43,11 +44,12 @@ impl Model for Regs {
 }
 
 impl Regs {
-    ghost use Rattle.std.specs.Prelude.{◌≡◌, ◌≤◌, ◌+◌, length, false};
+    ghost use Rattle.std.specs.Prelude.{◌≡◌, ◌≤◌, ◌+◌, ◌==◌, length, false};
+    ghost use Rattle.std.specs.Int.RustNames.{bit_and};
     ghost use Rattle.arrayvec.specs.ArrayVec.{array_vec_len};
     ghost use Rattle.legacy_regs.specs.declared.accesses.Space.TheVariants.{Common};
     ghost use Rattle.legacy_regs.specs.Fields.{common_size, device_size, structure_size};
-    ghost use Rattle.legacy_regs.specs.Registers.{initial_registers, reset_of, flr_of, queue_count, queue_size, queue_address, queue_vector, page_number, selected, common_structure, device_structure, structure};
+    ghost use Rattle.legacy_regs.specs.Registers.{initial_registers, reset_of, flr_of, queue_count, queue_size, queue_address, queue_vector, page_number, driver_features, uses_tables, uses_events, selected, common_structure, device_structure, structure};
     ghost use Rattle.legacy_regs.specs.Accesses.{read_answer, HasBytes, read_structure, after_read, write_answer, after_write, notifies_in_part, write_effect, common_effect, write_common, write_device};
     ghost use Rattle.legacy_regs.specs.Interrupts.{queue_irq, raise_queue};
 
@@ -84,6 +86,36 @@ impl Regs {
         ensures { result ≡ selected self.now.registers }
     {
         self.state.selected()
+    }
+
+    /// The driver's features (VIRTIO 1.3, 4.1.4.10): what the driver wrote there since the latest reset, else 0. Bits that
+    /// the device doesn't offer are among them where the driver set them.
+    pub fn driver_features(&self) -> u32
+        ensures { result ≡ driver_features self.now.registers }
+    {
+        read_32(&self.state.features)
+    }
+
+    /// Whether chains may have tables of descriptors (VIRTIO 1.3, 2.7.5.3): whether the driver accepted INDIRECT_DESC.
+    pub fn uses_tables(&self) -> bool
+        ensures { result ≡ uses_tables self.now.registers }
+    {
+        self.has_accepted(Features::INDIRECT_DESC)
+    }
+
+    /// Whether device and driver each name the position that they want to hear of (VIRTIO 1.3, 2.7.7 and 2.7.10): whether
+    /// the driver accepted EVENT_IDX.
+    pub fn uses_events(&self) -> bool
+        ensures { result ≡ uses_events self.now.registers }
+    {
+        self.has_accepted(Features::EVENT_IDX)
+    }
+
+    // Whether the driver has set these bits.
+    fn has_accepted(&self, features: Features) -> bool
+        ensures { result ≡ (bit_and (driver_features self.now.registers) features.0 == features.0) }
+    {
+        Features::from_bits_retain(self.driver_features()).contains(features)
     }
 
     /// What a read of `length` bytes from `offset` on would answer, counted in bytes from the structure's start. Nothing

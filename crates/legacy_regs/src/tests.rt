@@ -85,7 +85,7 @@ const REFUSED: [Step; 8] = [
 
 /// Fixed fields, a partial write, a write to a field that is only read, writeback, and ISR.
 const FIELDS: [Step; 11] = [
-    Read(Common, 0, 4, 0x0800_0a40),
+    Read(Common, 0, 4, 0x3800_0a40),
     Read(Device, 20, 4, 512),
     Write(Common, 4, 4, 0x0403_0201, Nothing),
     Write(Common, 5, 1, 9, Nothing),
@@ -135,7 +135,7 @@ const RESET: [Step; 7] = [
 
 /// The two queues of a network device, and its MAC.
 const NETWORK: [Step; 14] = [
-    Read(Common, 0, 4, 0x0801_0020),
+    Read(Common, 0, 4, 0x3801_0020),
     Write(Common, 14, 2, 2, Nothing),
     Read(Common, 12, 2, 0),
     Write(Common, 14, 2, 1, Nothing),
