@@ -17,7 +17,7 @@ use Rattle.blk_engine.specs.Block.{capacity, are_sectors, status, status_of, is_
 use Rattle.net_engine.specs.Frames.{with_header}
 use Rattle.legacy_regs.specs.declared.device.Kind.{Kind}
 use Rattle.legacy_regs.specs.declared.device.Kind.TheVariants.{Block, Net}
-use Rattle.legacy_regs.specs.Registers.{member_ring_size, queue_count, page_number}
+use Rattle.legacy_regs.specs.Registers.{member_ring_size, queue_count, page_number, uses_tables}
 use Rattle.legacy_regs.specs.Accesses.{byte_put}
 use Rattle.group_calls.specs.declared.member.MemberMade.{MemberMade}
 use Rattle.group_calls.specs.declared.member.MemberCall.{MemberCall}
@@ -196,7 +196,7 @@ module _ (made : MemberMade) (memory disk : List ℕ) (f : Facts) (q : ℕ) wher
   ring_leaves : (o : Option Layout) → Leaves (write_of_chain made.kind memory disk (next_chain memory f q o)) disk (ring_step made memory disk f q o)
   unfolding ring_step
   ring_leaves None = tt
-  ring_leaves (Some l) = found_leaves l (found false memory l (f.position q))
+  ring_leaves (Some l) = found_leaves l (found (uses_tables f.registers) memory l (f.position q))
 
   abbrev ring : Option Layout
   ring = legacy_layout (page_number f.registers q) member_ring_size (length memory)

@@ -1,12 +1,12 @@
 -- The stages of a step, and memory and disk after one entry more: what each folded definition says.
-use Rattle.std.proofs.Common.{◌≡◌, ℕ, Bool, List, [], ◌∷◌, length, replicate, Some, None, refl, false}
+use Rattle.std.proofs.Common.{◌≡◌, ℕ, Bool, List, [], ◌∷◌, length, replicate, Some, None, refl}
 use Rattle.std.specs.Prelude.{◌==◌, ◌&&◌, not, nat_lt, if◌then◌else◌}
 use Rattle.ring_layout.specs.declared.layout.Layout.{Layout}
 use Rattle.ring_layout.specs.declared.descriptor.Descriptor.{Descriptor}
 use Rattle.ring_layout.specs.Layout.{legacy_layout}
 use Rattle.ring_layout.specs.Chain.{nothing, bad_index, bad_chain, chain, found}
 use Rattle.legacy_regs.specs.declared.device.Kind.TheVariants.{Block, Net}
-use Rattle.legacy_regs.specs.Registers.{member_ring_size, queue_count, page_number}
+use Rattle.legacy_regs.specs.Registers.{member_ring_size, queue_count, page_number, uses_tables}
 use Rattle.group_calls.specs.declared.member.MemberMade.{MemberMade}
 use Rattle.group_calls.specs.declared.member.Halt.TheVariants.{Ring, Index, Chain}
 use Rattle.group_calls.specs.declared.member.MemberReply.TheVariants.{Empty, NotPending, Halted}
@@ -30,7 +30,7 @@ module _ (made : MemberMade) (memory disk : List ℕ) (f : Facts) (q : ℕ) wher
   unfolding ring_step
   ring_step-none = refl
 
-  pub ring_step-some : (l : Layout) → ring_step made memory disk f q (Some l) ≡ found_step made memory disk f q l (found false memory l (f.position q))
+  pub ring_step-some : (l : Layout) → ring_step made memory disk f q (Some l) ≡ found_step made memory disk f q l (found (uses_tables f.registers) memory l (f.position q))
   unfolding ring_step
   ring_step-some l = refl
 
