@@ -1,5 +1,5 @@
 -- In a legal history a command is old where its queue is closed, since nothing is posted after a Reset.
-use Rattle.std.proofs.Common.{◌≡◌, ℕ, ◌+◌, ◌<◌, inl, inr, Bool, true, false, cond, List, [], ◌∷◌, length, arith, refl, sym, ap, ◌∙◌}
+use Rattle.std.proofs.Common.{◌≡◌, ℕ, ◌+◌, ◌<◌, inl, inr, Bool, true, false, cond, List, [], ◌∷◌, length, arith, refl, sym}
 use Rattle.std.specs.Prelude.{◌/◌, ◌==◌, nat_le}
 use Rattle.std.proofs.lemmas.Bool.Decides.{nat_tests}
 use Rattle.std.proofs.lemmas.Bool.{cases_eq}
@@ -8,7 +8,7 @@ use Rattle.group_calls.specs.declared.queue.RingCall.{RingCall}
 use Rattle.group_calls.specs.declared.queue.RingCall.TheVariants.{Post, Pop, Complete, Take, Reset}
 use Rattle.group_calls.specs.declared.queue.RingReply.{RingReply}
 use Rattle.group_calls.specs.declared.queue.RingReply.TheVariants.{Seq, Full, Closed}
-use Rattle.group_calls.specs.Queue.{RingEntry, Posted, posted, outstanding, is_closed, is_old, closing_floor, queue_answer, post_answer, IsLegalQueue}
+use Rattle.group_calls.specs.Queue.{RingEntry, posted, outstanding, is_closed, is_old, closing_floor, queue_answer, post_answer, IsLegalQueue}
 
 -- a Post that is answered by a number finds the queue open, and is numbered by how many were posted
 posts_open : (size : ℕ) (past : List RingEntry) (tag : Tag) (s : ℕ) → Seq s ≡ post_answer size past tag → (is_closed past ≡ false) × (s ≡ length (posted past))

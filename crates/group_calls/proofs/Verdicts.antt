@@ -1,6 +1,6 @@
 -- The cases of a verdict.
 use Rattle.std.proofs.Common.{◌≡◌, ℕ, Bool, true, false, cond, List, refl}
-use Rattle.std.specs.Prelude.{◌==◌, ◌&&◌, nat_le, nat_lt, not, if◌then◌else◌}
+use Rattle.std.specs.Prelude.{◌==◌, ◌&&◌, nat_le, nat_lt, not}
 use Rattle.admin_wire.specs.Numbers.{sr_iov, invalid_opcode, invalid_field, invalid_group, invalid_member}
 use Rattle.admin_wire.specs.Command.{opcode_of, member_of, group_type_of, body_of}
 use Rattle.admin_wire.specs.declared.command.Body.{Body}

@@ -1,5 +1,5 @@
 -- What a member answers, by what its history says.
-use Rattle.std.specs.Prelude.{ℕ, ◌+◌, ◌<◌, ◌≤◌, nat_le, Bool, true, false, not, ◌&&◌, List, [], ◌∷◌, Option, None, Some, length, if◌then◌else◌}
+use Rattle.std.specs.Prelude.{ℕ, ◌+◌, ◌<◌, ◌≤◌, nat_le, Bool, true, false, not, ◌&&◌, List, Option, None, Some, length, if◌then◌else◌}
 use Rattle.std.specs.List.{list_any}
 use Rattle.byte_fields.specs.Places.{bytes_at}
 use Rattle.admin_wire.specs.declared.command.LegacyCmd.{LegacyCmd}
