@@ -5,23 +5,28 @@ use Rattle.std.proofs.lemmas.Bool.Decides.{nat_tests}
 use Rattle.ring_layout.specs.declared.layout.Layout.{Layout}
 use Rattle.ring_layout.specs.declared.descriptor.Descriptor.{Descriptor}
 use Rattle.ring_layout.specs.Chain.{Write, written, scattered, used_writes, writable_part, available}
+use Rattle.legacy_regs.specs.Registers.{uses_events}
 use Rattle.blk_engine.specs.Block.{stored}
 use Rattle.legacy_regs.specs.declared.interrupts.Irq.{Irq}
 use Rattle.group_calls.specs.declared.member.MemberReply.TheVariants.{Served}
 use Rattle.group_calls.specs.Facts.{Facts}
-use Rattle.group_calls.specs.Steps.{serves, service, interrupt, outcome_reply}
+use Rattle.group_calls.specs.Steps.{serves, service, interrupt, event_writes, outcome_reply}
 use Rattle.member_device.specs.declared.plan.Place.{Place}
 use Rattle.member_device.specs.Device.{Holdings, left_by_step}
-use Rattle.member_device.specs.Plan.{facts_of, put_back, raised_by}
+use Rattle.member_device.specs.Plan.{facts_of, event_writes_if, put_back, raised_by}
 
 written-append : (ws us : List Write) (memory : List ℕ) → written (ws ++ us) memory ≡ written us (written ws memory)
 written-append [] us memory = refl
 written-append (w ∷ ws) us memory = written-append ws us _
 
+-- three lists of writes, one after another
+in_turn : (ws us vs : List Write) (memory : List ℕ) → written (ws ++ us ++ vs) memory ≡ written vs (written us (written ws memory))
+in_turn ws us vs memory = written-append (ws ++ us) vs memory ∙ ap (written vs) (written-append ws us memory)
+
 service-is : (memory : List ℕ) (f : Facts) (q : ℕ) (l : Layout) (ds : List Descriptor) (reply disk sent : List ℕ)
     → service memory f q l ds reply disk sent ≡ serves record {
       reply = reply;
-      writes = scattered (writable_part ds) reply ++ used_writes l (f.position q) (available memory l (f.position q)) (length reply);
+      writes = scattered (writable_part ds) reply ++ used_writes l (f.position q) (available memory l (f.position q)) (length reply) ++ event_writes f q l;
       disk = disk;
       sent = sent;
       irq = interrupt memory f q l;
@@ -57,24 +62,33 @@ module _ (d : Holdings) (q position : ℕ) (p : Place) (reply : List ℕ) (irq :
     served_reply count disk sent count_is = rw service-is (ap (λ (n : ℕ). Served n irq sent) count_is ∙ ap (λ (i : Irq). Served (length reply) i sent) irq_is)
 
     module _ (head_is : p.chain.head ≡ available d.memory p.layout position) where
-      abbrev writes : List Write
-      writes = scattered (writable_part p.chain.parts) reply ++ used_writes p.layout position (available d.memory p.layout position) (length reply)
+      abbrev events : Bool
+      events = uses_events d.registers
 
-      memory_is : put_back d.memory position p reply ≡ written writes d.memory
+      abbrev replied : List Write
+      replied = scattered (writable_part p.chain.parts) reply
+
+      abbrev used_at : ℕ → List Write
+      used_at head = used_writes p.layout position head (length reply)
+
+      abbrev writes : List Write
+      writes = replied ++ used_at (available d.memory p.layout position) ++ event_writes_if events position p.layout
+
+      memory_is : put_back events d.memory position p reply ≡ written writes d.memory
       memory_is =
-          ap (λ (h : ℕ). written (used_writes p.layout position h (length reply)) (written (scattered (writable_part p.chain.parts) reply) d.memory)) head_is
-          ∙ sym (written-append (scattered (writable_part p.chain.parts) reply) (used_writes p.layout position (available d.memory p.layout position) (length reply)) d.memory)
+          ap (λ (h : ℕ). written (event_writes_if events position p.layout) (written (used_at h) (written replied d.memory))) head_is
+          ∙ sym (in_turn replied (used_at (available d.memory p.layout position)) (event_writes_if events position p.layout) d.memory)
 
       served_leaves : (done : Holdings) (disk sent : List ℕ) (waiting : List (List ℕ))
-          → done ≡ record d { registers = raised_by irq d.registers; memory = put_back d.memory position p reply; disk = disk; waiting = waiting }
+          → done ≡ record d { registers = raised_by irq d.registers; memory = put_back (uses_events d.registers) d.memory position p reply; disk = disk; waiting = waiting }
           → waiting ≡ (if q == 0 then drop 1 d.waiting else d.waiting)
           → done ≡ left_by_step q (service d.memory (facts_of d position pending) q p.layout p.chain.parts reply disk sent) d
       served_leaves done disk sent waiting done_is waiting_is = rw service-is (done_is
-          ∙ ap (λ (i : Irq). record d { registers = raised_by i d.registers; memory = put_back d.memory position p reply; disk = disk; waiting = waiting }) irq_is
+          ∙ ap (λ (i : Irq). record d { registers = raised_by i d.registers; memory = put_back (uses_events d.registers) d.memory position p reply; disk = disk; waiting = waiting }) irq_is
           ∙ ap (λ (m : List ℕ). record d { registers = raised_by (interrupt d.memory (facts_of d position pending) q p.layout) d.registers; memory = m; disk = disk; waiting = waiting }) memory_is
           ∙ ap (λ (w : List (List ℕ)). record d { registers = raised_by (interrupt d.memory (facts_of d position pending) q p.layout) d.registers; memory = written writes d.memory; disk = disk; waiting = w }) (waiting_is ∙ left_waiting (q == 0) d.waiting))
 
-      module _ (used : Holdings) (used_is : used ≡ record d { registers = raised_by irq d.registers; memory = put_back d.memory position p reply }) where
+      module _ (used : Holdings) (used_is : used ≡ record d { registers = raised_by irq d.registers; memory = put_back (uses_events d.registers) d.memory position p reply }) where
         -- a request of a block device, for which no frame waits
         pub request_leaves : (done : Holdings) (at : Option ℕ) (request : List ℕ) → done ≡ record used { disk = stored at request used.disk } → d.waiting ≡ []
             → done ≡ left_by_step q (service d.memory (facts_of d position pending) q p.layout p.chain.parts reply (stored at request d.disk) []) d

@@ -1,7 +1,8 @@
 -- A step that is planned and not yet done: which outcome it will be, and what has to hold for it to be done. The code's own.
-use Rattle.std.specs.Prelude.{◌≡◌, ℕ, ◌<◌, ◌≤◌, Bool, List, [], length}
+use Rattle.std.specs.Prelude.{◌≡◌, ℕ, ◌<◌, ◌≤◌, Bool, List, [], ◌∷◌, length, if◌then◌else◌}
+use Rattle.ring_layout.specs.declared.layout.Layout.{Layout}
 use Rattle.ring_layout.specs.Layout.{LiesIn}
-use Rattle.ring_layout.specs.Chain.{available, writable_part, total_length, scattered, used_writes, written}
+use Rattle.ring_layout.specs.Chain.{available, writable_part, total_length, scattered, Write, used_writes, event_write, written}
 use Rattle.ring_device.specs.Buffers.{LieIn}
 use Rattle.blk_engine.specs.Block.{stored, HasRoomAt}
 use Rattle.legacy_regs.specs.declared.interrupts.Irq.{Irq}
@@ -25,10 +26,16 @@ facts_of d position pending = record {
   raised = 0;
 }
 
--- the memory after a reply at a position, and the used ring
-abbrev pub put_back : List ℕ → ℕ → Place → List ℕ → List ℕ
-put_back memory position p reply =
-    written (used_writes p.layout position p.chain.head (length reply)) (written (scattered (writable_part p.chain.parts) reply) memory)
+-- the next position is named as the one to notify of, where event indices are used
+abbrev pub event_writes_if : Bool → ℕ → Layout → List Write
+event_writes_if events position l = if events then event_write l position ∷ [] else []
+
+-- the memory after a reply at a position, the used ring, and the position to notify of
+abbrev pub put_back : Bool → List ℕ → ℕ → Place → List ℕ → List ℕ
+put_back events memory position p reply =
+    written (event_writes_if events position p.layout) (
+    written (used_writes p.layout position p.chain.head (length reply)) (
+    written (scattered (writable_part p.chain.parts) reply) memory))
 
 -- an interrupt of ISR sets it
 abbrev pub raised_by : Irq → Registers → Registers

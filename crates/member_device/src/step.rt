@@ -1,6 +1,6 @@
 //! A step of a queue (VIRTIO 1.3, 2.7).
-ghost use Rattle.std.specs.Prelude.{◌≡◌, ◌<◌, nat_lt, true, false, not, ◌&&◌, length, IfOk, OnOk, OnErr};
-ghost use Rattle.legacy_regs.specs.Registers.{queue_count};
+ghost use Rattle.std.specs.Prelude.{◌≡◌, ◌<◌, nat_lt, true, not, ◌&&◌, length, IfOk, OnOk, OnErr};
+ghost use Rattle.legacy_regs.specs.Registers.{queue_count, uses_tables};
 ghost use Rattle.ring_layout.specs.Layout.{LiesIn};
 ghost use Rattle.ring_layout.specs.Chain.{found};
 ghost use Rattle.group_calls.specs.Facts.{Facts};
@@ -23,9 +23,12 @@ impl Device {
     /// the outcome over what the device holds: `NotPending` where the queue doesn't exist or isn't to be served, `Empty` where
     /// no frame waits for it or no entry is available, `Halted` where its ring, an entry or a request is wrong, `Dropped` where
     /// the first frame doesn't fit the chain, else `Served`. Just the last two change anything: the frame leaves, or the reply
-    /// goes into the chain's writable buffers, then the chain into the used ring, and then the interrupt is raised, unless
-    /// the guest wants none. `NoMemory` where the chain, its bytes, the reply or the frame that is sent can't be had; then
-    /// nothing changes.
+    /// goes into the chain's writable buffers, then the chain into the used ring, and then the interrupt is raised, where the
+    /// guest wants one. Two things go by what the driver accepted (VIRTIO 1.3, 2.2). With `INDIRECT_DESC` a chain may have a
+    /// table of descriptors (2.7.5.3). With `EVENT_IDX` the next position goes behind the used ring's elements, as the last
+    /// of all (2.7.10), and an interrupt is wanted exactly where the guest left this position behind the available ring's
+    /// entries (2.7.7); without, it is wanted unless that ring has `NO_INTERRUPT`. `NoMemory` where the chain, its bytes, the
+    /// reply or the frame that is sent can't be had; then nothing changes.
     pub fn step(&mut self, position: u16, pending: bool, queue: u16) -> Result<Answer, NoMemory>
         ensures told { (f : Facts) → AreFacts self.old queue position pending f → IfOk result (λ answer. answer.told
             ≡ outcome_reply (outcome self.old.made self.old.memory self.old.disk f queue)) }
@@ -79,10 +82,12 @@ impl Device {
         requires ring { LiesIn (length self.now.memory) layout }
         requires waits { receives self.now.made.kind queue ≡ true → 0 < length self.now.waiting }
         ensures plan { (f : Facts) → f.waiting ≡ self.now.waiting → IfOk result (λ plan. planned self.now f queue plan
-            ≡ found_step self.now.made self.now.memory self.now.disk f queue layout (found false self.now.memory layout position)) }
+            ≡ found_step self.now.made self.now.memory self.now.disk f queue layout
+            (found (uses_tables self.now.registers) self.now.memory layout position)) }
         ensures ready { IfOk result (IsReady self.now queue position) }
     {
-        match next_chain(self.alloc, &self.memory, &layout, position, false)? {
+        let tables = self.regs.uses_tables();
+        match next_chain(self.alloc, &self.memory, &layout, position, tables)? {
             Found::Chain(chain) => self.plan_chain(queue, Place { layout, chain }),
             Found::Empty => Ok(Plan::Empty),
             Found::Bad(Bad::Index) => Ok(Plan::Halted(Halt::Index)),
