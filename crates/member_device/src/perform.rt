@@ -87,9 +87,9 @@ impl Device {
         }
     }
 
-    /// Uses a chain: the reply goes into its writable buffers and the chain into the used ring (VIRTIO 1.3, 2.7.8); then,
-    /// where event indices are used, the next position behind that ring (2.7.10). Then the interrupt is raised, where the
-    /// guest wants one for this position (2.7.7).
+    /// Uses a chain: the reply goes into its writable buffers and the chain into the used ring (VIRTIO 1.3, 2.7.8);
+    /// then, where event indices are used, the next position behind that ring (2.7.10). Then the interrupt is raised,
+    /// where the guest wants one for this position (2.7.7).
     fn use_chain(&mut self, position: u16, queue: u16, place: &Place, reply: &Bytes) -> Used
         requires { IsUsable self.old.memory position place.now reply.now }
         ensures length { result.length ≡ length reply.now }
@@ -106,8 +106,8 @@ impl Device {
         Used { length, irq }
     }
 
-    /// Puts a reply into a chain, the chain into the used ring, and where event indices are used the next position behind
-    /// that ring. Says how many bytes the reply has.
+    /// Puts a reply into a chain, the chain into the used ring, and where event indices are used the next position
+    /// behind that ring. Says how many bytes the reply has.
     fn put(&mut self, position: u16, place: &Place, reply: &Bytes, events: bool) -> u32
         requires place { IsPlace self.old.memory position place.now }
         requires fits { length reply.now ≤ total_length (writable_part place.now.chain.parts) }

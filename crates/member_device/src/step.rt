@@ -19,16 +19,17 @@ use ring_layout::{Layout, legacy};
 use std::alloc::AllocError as NoMemory;
 
 impl Device {
-    /// A step of a queue that stands at a position, which runs modulo 65,536, and is to be served or not. The reply is that of
-    /// the outcome over what the device holds: `NotPending` where the queue doesn't exist or isn't to be served, `Empty` where
-    /// no frame waits for it or no entry is available, `Halted` where its ring, an entry or a request is wrong, `Dropped` where
-    /// the first frame doesn't fit the chain, else `Served`. Just the last two change anything: the frame leaves, or the reply
-    /// goes into the chain's writable buffers, then the chain into the used ring, and then the interrupt is raised, where the
-    /// guest wants one. Two things go by what the driver accepted (VIRTIO 1.3, 2.2). With `INDIRECT_DESC` a chain may have a
-    /// table of descriptors (2.7.5.3). With `EVENT_IDX` the next position goes behind the used ring's elements, as the last
-    /// of all (2.7.10), and an interrupt is wanted exactly where the guest left this position behind the available ring's
-    /// entries (2.7.7); without, it is wanted unless that ring has `NO_INTERRUPT`. `NoMemory` where the chain, its bytes, the
-    /// reply or the frame that is sent can't be had; then nothing changes.
+    /// A step of a queue that stands at a position, which runs modulo 65,536, and is to be served or not. The reply is
+    /// that of the outcome over what the device holds: `NotPending` where the queue doesn't exist or isn't to be
+    /// served, `Empty` where no frame waits for it or no entry is available, `Halted` where its ring, an entry or a
+    /// request is wrong, `Dropped` where the first frame doesn't fit the chain, else `Served`. Just the last two change
+    /// anything: the frame leaves, or the reply goes into the chain's writable buffers, then the chain into the used
+    /// ring, and then the interrupt is raised, where the guest wants one. Two things go by what the driver accepted
+    /// (VIRTIO 1.3, 2.2). With `INDIRECT_DESC` a chain may have a table of descriptors (2.7.5.3). With `EVENT_IDX` the
+    /// next position goes behind the used ring's elements, as the last of all (2.7.10), and an interrupt is wanted
+    /// exactly where the guest left this position behind the available ring's entries (2.7.7); without, it is wanted
+    /// unless that ring has `NO_INTERRUPT`. `NoMemory` where the chain, its bytes, the reply or the frame that is sent
+    /// can't be had; then nothing changes.
     pub fn step(&mut self, position: u16, pending: bool, queue: u16) -> Result<Answer, NoMemory>
         ensures told { (f : Facts) → AreFacts self.old queue position pending f → IfOk result (λ answer. answer.told
             ≡ outcome_reply (outcome self.old.made self.old.memory self.old.disk f queue)) }
