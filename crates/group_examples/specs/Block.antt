@@ -88,7 +88,7 @@ replies_are_scattered =
 -- a read-only device offers RO and refuses to write
 abbrev pub writes_are_refused : List (MemberCall × MemberReply)
 writes_are_refused =
-    (read 0 4, Data (0x60 ∷ 0x0a ∷ 0 ∷ 0x08 ∷ []))
+    (read 0 4, Data (0x60 ∷ 0x0a ∷ 0 ∷ 0x38 ∷ []))
     ∷ (ring_at_page_one, Written)
     ∷ (Notify 0, Written)
     ∷ (MemWrite 12800 (0xaa ∷ 0xbb ∷ 0xcc ∷ 0xdd ∷ []), Written)

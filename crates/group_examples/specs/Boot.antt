@@ -15,7 +15,7 @@ a_guest_boots =
     (Write 18 (0 ∷ []), Ignored)
     ∷ (Write 18 (1 ∷ []), Ignored)
     ∷ (Write 18 (3 ∷ []), Ignored)
-    ∷ (Read 0 4, Bytes (0x40 ∷ 0x0a ∷ 0 ∷ 0x08 ∷ []))
+    ∷ (Read 0 4, Bytes (0x40 ∷ 0x0a ∷ 0 ∷ 0x38 ∷ []))
     ∷ (Write 4 (0x40 ∷ 0 ∷ 0 ∷ 0x08 ∷ []), Ignored)
     ∷ (Call (Msix true), Other Written)
     ∷ (Write 14 (0 ∷ 0 ∷ []), Ignored)

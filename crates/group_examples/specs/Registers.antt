@@ -47,7 +47,7 @@ notify_is_two_bytes =
 -- a network device's registers: its features, its queues, its MAC and its link
 abbrev pub network_registers : List (LoneEvent × LoneReply)
 network_registers =
-    (Read 0 4, Bytes (0x20 ∷ 0 ∷ 1 ∷ 8 ∷ []))
+    (Read 0 4, Bytes (0x20 ∷ 0 ∷ 1 ∷ 0x38 ∷ []))
     ∷ (Write 14 (2 ∷ 0 ∷ []), Ignored)
     ∷ (Read 12 2, Bytes (0 ∷ 0 ∷ []))
     ∷ (Write 14 (1 ∷ 0 ∷ []), Ignored)
@@ -78,9 +78,9 @@ short_and_crossing =
 -- a write to a read-only field has no effect, and one to a part of a field changes that part
 abbrev pub parts_of_fields : List (MemberCall × MemberReply)
 parts_of_fields =
-    (read 0 4, Data (0x40 ∷ 0x0a ∷ 0 ∷ 0x08 ∷ []))
+    (read 0 4, Data (0x40 ∷ 0x0a ∷ 0 ∷ 0x38 ∷ []))
     ∷ (write 0 (1 ∷ 2 ∷ 3 ∷ 4 ∷ []), Written)
-    ∷ (read 0 4, Data (0x40 ∷ 0x0a ∷ 0 ∷ 0x08 ∷ []))
+    ∷ (read 0 4, Data (0x40 ∷ 0x0a ∷ 0 ∷ 0x38 ∷ []))
     ∷ (write 5 (10 ∷ []), Written)
     ∷ (read 4 4, Data (0 ∷ 10 ∷ 0 ∷ 0 ∷ []))
     ∷ (write 10 (1 ∷ 2 ∷ []), Written)

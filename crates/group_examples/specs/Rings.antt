@@ -146,3 +146,64 @@ rings_fit =
     ∷ (Notify 0, Written)
     ∷ (Step 0, Empty)
     ∷ []
+
+-- ---- what the driver accepted: VIRTIO 1.3, 2.7.5.3, 2.7.7 and 2.7.10
+
+-- a flush in a table of two descriptors
+abbrev pub flush_by_table : List (MemberCall × MemberReply)
+flush_by_table =
+    (MemWrite 12288 (block_request 4 0), Written)
+    ∷ (MemWrite 12544 (buffer 12288 16 1 1 ++ buffer 12304 1 2 0), Written)
+    ∷ (MemWrite 4096 (buffer 12544 32 4 0), Written)
+    ∷ []
+
+-- one entry for it, by a driver that set these features, and what its step is answered
+abbrev pub table_is_met : List ℕ → MemberReply → List (MemberCall × MemberReply)
+table_is_met features reply =
+    (write 4 features, Written)
+    ∷ (ring_at_page_one, Written)
+    ∷ flush_by_table
+    ++ (MemWrite 4352 one_entry, Written)
+    ∷ (Notify 0, Written)
+    ∷ (Step 0, reply)
+    ∷ []
+
+-- where it is served, what stands then in the used ring, in ISR, and behind the used ring's elements
+abbrev pub table_is_served : List ℕ → List ℕ → List (MemberCall × MemberReply)
+table_is_served features event =
+    table_is_met features (Served 1 Isr [])
+    ++ (MemRead 8192 12, Data (bytes_of 2 0 ++ bytes_of 2 1 ++ used_element 0 1))
+    ∷ (read 19 1, Data (1 ∷ []))
+    ∷ (MemRead 8324 2, Data event)
+    ∷ []
+
+-- each on a device of its own: with both features the table is followed and the next position is named; with INDIRECT_DESC alone no position is; with EVENT_IDX alone the queue halts
+abbrev pub tables_are_followed : List (List (MemberCall × MemberReply))
+tables_are_followed =
+    table_is_served (0 ∷ 0 ∷ 0 ∷ 0x30 ∷ []) (1 ∷ 0 ∷ [])
+    ∷ table_is_served (0 ∷ 0 ∷ 0 ∷ 0x10 ∷ []) (0 ∷ 0 ∷ [])
+    ∷ table_is_met (0 ∷ 0 ∷ 0 ∷ 0x20 ∷ []) (Halted Chain)
+    ∷ []
+
+-- two entries for a flush; behind the entries of the available ring the driver asks for an interrupt at position 1
+abbrev pub second_is_awaited : List ℕ → List (MemberCall × MemberReply) → List (MemberCall × MemberReply)
+second_is_awaited features chain =
+    (write 4 features, Written)
+    ∷ (ring_at_page_one, Written)
+    ∷ chain
+    ++ (MemWrite 4352 (available_ring 0 2 (0 ∷ 0 ∷ [])), Written)
+    ∷ (MemWrite 4388 (1 ∷ 0 ∷ []), Written)
+    ∷ (Notify 0, Written)
+    ∷ (Step 0, Served 1 Silent [])
+    ∷ (read 19 1, Data (0 ∷ []))
+    ∷ (Step 0, Served 1 Isr [])
+    ∷ (read 19 1, Data (1 ∷ []))
+    ∷ (MemRead 8324 2, Data (2 ∷ 0 ∷ []))
+    ∷ []
+
+-- each on a device of its own: with both features and a table, and with EVENT_IDX alone and no table
+abbrev pub positions_are_awaited : List (List (MemberCall × MemberReply))
+positions_are_awaited =
+    second_is_awaited (0 ∷ 0 ∷ 0 ∷ 0x30 ∷ []) flush_by_table
+    ∷ second_is_awaited (0 ∷ 0 ∷ 0 ∷ 0x20 ∷ []) flush
+    ∷ []

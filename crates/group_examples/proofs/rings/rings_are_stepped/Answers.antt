@@ -33,3 +33,11 @@ returns-clause-hostile_rings_are_answered c = refl
 pub returns-clause-a_ring_fits_its_memory : goal.returns-clause-a_ring_fits_its_memory
 unfolding bytes_of number_at overwrite descriptor available gap chain_at found status_of block_reply disk_after_request registers_after facts service block_step receive_step transmit_step chain_step found_step ring_step outcome write_of_service memory_from disk_writes
 returns-clause-a_ring_fits_its_memory c = refl
+
+pub returns-clause-a_table_is_followed_where_accepted : goal.returns-clause-a_table_is_followed_where_accepted
+unfolding bytes_of number_at overwrite descriptor available gap chain_at found status_of block_reply disk_after_request registers_after facts service block_step receive_step transmit_step chain_step found_step ring_step outcome write_of_service memory_from disk_writes
+returns-clause-a_table_is_followed_where_accepted c = refl
+
+pub returns-clause-an_interrupt_comes_at_the_awaited_position : goal.returns-clause-an_interrupt_comes_at_the_awaited_position
+unfolding bytes_of number_at overwrite descriptor available gap chain_at found status_of block_reply disk_after_request registers_after facts service block_step receive_step transmit_step chain_step found_step ring_step outcome write_of_service memory_from disk_writes
+returns-clause-an_interrupt_comes_at_the_awaited_position c = refl
