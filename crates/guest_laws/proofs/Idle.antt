@@ -10,7 +10,7 @@ use Rattle.blk_engine.specs.Block.{is_malformed}
 use Rattle.net_engine.specs.Frames.{with_header}
 use Rattle.legacy_regs.specs.declared.device.Kind.{Kind}
 use Rattle.legacy_regs.specs.declared.device.Kind.TheVariants.{Block, Net}
-use Rattle.legacy_regs.specs.Registers.{member_ring_size, queue_count, page_number}
+use Rattle.legacy_regs.specs.Registers.{member_ring_size, queue_count, page_number, uses_tables}
 use Rattle.history.specs.Places.{entry_at, before}
 use Rattle.group_calls.specs.declared.member.MemberMade.{MemberMade}
 use Rattle.group_calls.specs.declared.member.MemberCall.TheVariants.{Step}
@@ -72,7 +72,7 @@ module _ (made : MemberMade) (memory disk : List ℕ) (f : Facts) (q : ℕ) wher
   ring_acts : (o : Option Layout) → Acts (ring_step made memory disk f q o)
   unfolding ring_step
   ring_acts None = refl
-  ring_acts (Some l) = found_acts l (found false memory l (f.position q))
+  ring_acts (Some l) = found_acts l (found (uses_tables f.registers) memory l (f.position q))
 
   -- a queue that exists and is pending is served, or halts, or finds nothing
   idle_outcome : q < queue_count made.kind → outcome_reply (outcome made memory disk f q) ≡ NotPending → f.pending q ≡ false
