@@ -1,5 +1,5 @@
 -- A step looks at the registers, the frames, and one queue's position and whether it is pending: facts that agree in these give the same outcome.
-use Rattle.std.proofs.Common.{◌≡◌, ℕ, Bool, List, [], ◌∷◌, length, Option, Some, None, refl, ap, ◌∙◌, false}
+use Rattle.std.proofs.Common.{◌≡◌, ℕ, Bool, List, [], ◌∷◌, length, Option, Some, None, refl, ap, ◌∙◌}
 use Rattle.std.specs.Prelude.{nat_lt, not, ◌&&◌, ◌==◌, if◌then◌else◌}
 use Rattle.ring_layout.specs.declared.layout.Layout.{Layout}
 use Rattle.ring_layout.specs.declared.descriptor.Descriptor.{Descriptor}
@@ -7,7 +7,7 @@ use Rattle.ring_layout.specs.Layout.{legacy_layout}
 use Rattle.ring_layout.specs.Chain.{Found as RingFound, nothing, bad_index, bad_chain, chain as a_chain, found}
 use Rattle.legacy_regs.specs.declared.device.Kind.{Kind}
 use Rattle.legacy_regs.specs.declared.device.Kind.TheVariants.{Block, Net}
-use Rattle.legacy_regs.specs.Registers.{Registers, member_ring_size, queue_count, page_number}
+use Rattle.legacy_regs.specs.Registers.{Registers, member_ring_size, queue_count, page_number, uses_tables}
 use Rattle.group_calls.specs.declared.member.MemberMade.{MemberMade}
 use Rattle.group_calls.specs.declared.member.MemberReply.TheVariants.{NotPending, Empty}
 use Rattle.group_calls.specs.MemberQueues.{receives}
@@ -50,7 +50,10 @@ module _ (made : MemberMade) (memory disk : List ℕ) (f g : Facts) (q : ℕ)
   ring_alike : (o : Option Layout) → ring_step made memory disk f q o ≡ ring_step made memory disk g q o
   unfolding ring_step
   ring_alike None = refl
-  ring_alike (Some l) = found_alike l (found false memory l (f.position q)) ∙ ap (λ (p : ℕ). found_step made memory disk g q l (found false memory l p)) position
+  ring_alike (Some l) =
+      found_alike l (found (uses_tables f.registers) memory l (f.position q))
+      ∙ ap (λ (p : ℕ). found_step made memory disk g q l (found (uses_tables f.registers) memory l p)) position
+      ∙ ap (λ (r : Registers). found_step made memory disk g q l (found (uses_tables r) memory l (g.position q))) registers
 
   abbrev layout_of : Registers → Option Layout
   layout_of r = legacy_layout (page_number r q) member_ring_size (length memory)

@@ -4,13 +4,13 @@ use Rattle.std.specs.Prelude.{◌==◌, ◌&&◌, not, nat_lt}
 use Rattle.ring_layout.specs.declared.layout.Layout.{Layout}
 use Rattle.ring_layout.specs.declared.descriptor.Descriptor.{Descriptor}
 use Rattle.ring_layout.specs.Layout.{legacy_layout}
-use Rattle.ring_layout.specs.Chain.{Found, nothing, bad_index, bad_chain, chain, found, writable_part, total_length, readable_bytes, wants_no_interrupt}
+use Rattle.ring_layout.specs.Chain.{Found, nothing, bad_index, bad_chain, chain, found, writable_part, total_length, readable_bytes, wants_interrupt}
 use Rattle.blk_engine.specs.Block.{is_malformed, block_reply, disk_after_request}
 use Rattle.net_engine.specs.Frames.{with_header}
 use Rattle.legacy_regs.specs.declared.device.Kind.{Kind}
 use Rattle.legacy_regs.specs.declared.device.Kind.TheVariants.{Block, Net}
 use Rattle.legacy_regs.specs.declared.interrupts.Irq.TheVariants.{Silent, Isr, Vector}
-use Rattle.legacy_regs.specs.Registers.{Registers, no_vector, member_ring_size, queue_count, page_number, queue_vector}
+use Rattle.legacy_regs.specs.Registers.{Registers, no_vector, member_ring_size, queue_count, page_number, queue_vector, uses_tables, uses_events}
 use Rattle.legacy_regs.specs.Interrupts.{vector_irq, queue_irq}
 use Rattle.group_calls.specs.declared.member.MemberMade.{MemberMade}
 use Rattle.group_calls.specs.declared.member.Halt.TheVariants.{Ring, Index, Chain, Request}
@@ -37,11 +37,11 @@ module _ (made : MemberMade) (memory disk : List ℕ) (f : Facts) (q : ℕ) (sma
   Usual o = IsUsual f.registers (outcome_reply o)
 
   interrupt_small : (l : Layout) → IsSmall (interrupt memory f q l)
-  interrupt_small l = go (wants_no_interrupt memory l)
+  interrupt_small l = go (wants_interrupt (uses_events f.registers) memory l (f.position q))
     where
-      go : (b : Bool) → IsSmall (cond b Silent (queue_irq f.registers q))
-      go true = tt
-      go false = irq_is_small f.registers q small
+      go : (b : Bool) → IsSmall (cond b (queue_irq f.registers q) Silent)
+      go true = irq_is_small f.registers q small
+      go false = tt
 
   vector_fits : (vector size : ℕ) (sent : List ℕ) → FitsRegisters (Served size (vector_irq vector) sent) f.registers
   vector_fits vector size sent = go (vector == no_vector)
@@ -51,12 +51,12 @@ module _ (made : MemberMade) (memory disk : List ℕ) (f : Facts) (q : ℕ) (sma
       go false = tt
 
   interrupt_fits : (l : Layout) (size : ℕ) (sent : List ℕ) → FitsRegisters (Served size (interrupt memory f q l) sent) f.registers
-  interrupt_fits l size sent = go (wants_no_interrupt memory l) f.registers.msix refl
+  interrupt_fits l size sent = go (wants_interrupt (uses_events f.registers) memory l (f.position q)) f.registers.msix refl
     where
-      go : (b m : Bool) → f.registers.msix ≡ m → FitsRegisters (Served size (cond b Silent (cond m (vector_irq (queue_vector f.registers q)) Isr)) sent) f.registers
-      go true m is = tt
-      go false true is = vector_fits (queue_vector f.registers q) size sent
-      go false false is = is
+      go : (b m : Bool) → f.registers.msix ≡ m → FitsRegisters (Served size (cond b (cond m (vector_irq (queue_vector f.registers q)) Isr) Silent) sent) f.registers
+      go true true is = vector_fits (queue_vector f.registers q) size sent
+      go true false is = is
+      go false m is = tt
 
   service_usual : (l : Layout) (ds : List Descriptor) (reply disk_then sent : List ℕ) → Usual (service memory f q l ds reply disk_then sent)
   unfolding service
@@ -101,7 +101,7 @@ module _ (made : MemberMade) (memory disk : List ℕ) (f : Facts) (q : ℕ) (sma
 
   ring_usual : (o : Option Layout) → Usual (ring_step made memory disk f q o)
   ring_usual None = subst Usual (sym (ring_step-none made memory disk f q)) (stopped f.registers (Halted Ring) tt tt)
-  ring_usual (Some l) = subst Usual (sym (ring_step-some made memory disk f q l)) (found_usual l (found false memory l (f.position q)))
+  ring_usual (Some l) = subst Usual (sym (ring_step-some made memory disk f q l)) (found_usual l (found (uses_tables f.registers) memory l (f.position q)))
 
   pub outcome_usual : Usual (outcome made memory disk f q)
   outcome_usual = subst Usual (sym (outcome-is made memory disk f q)) (go (not (nat_lt q (queue_count made.kind) && f.pending q)) (receives made.kind q && are_none f.waiting))

@@ -4,7 +4,7 @@ use Rattle.std.specs.Prelude.{nat_lt, not, ◌&&◌}
 use Rattle.ring_layout.specs.declared.layout.Layout.{Layout}
 use Rattle.ring_layout.specs.Layout.{legacy_layout}
 use Rattle.ring_layout.specs.Chain.{found}
-use Rattle.legacy_regs.specs.Registers.{member_ring_size, queue_count, page_number}
+use Rattle.legacy_regs.specs.Registers.{member_ring_size, queue_count, page_number, uses_tables}
 use Rattle.group_calls.specs.declared.member.MemberMade.{MemberMade}
 use Rattle.group_calls.specs.declared.member.Halt.TheVariants.{Ring}
 use Rattle.group_calls.specs.declared.member.MemberReply.TheVariants.{NotPending, Empty, Halted}
@@ -32,5 +32,5 @@ module _ (made : MemberMade) (memory disk : List ℕ) (f : Facts) (q : ℕ) wher
         pub outcome_without_ring : None ≡ legacy_layout page member_ring_size size → stops (Halted Ring) ≡ outcome made memory disk f q
         outcome_without_ring none = sym (outcome_of_ring ∙ ap (ring_step made memory disk f q) (sym (none ∙ same_layout)) ∙ ring_step-none made memory disk f q)
 
-        pub outcome_with_ring : (l : Layout) → Some l ≡ legacy_layout page member_ring_size size → found_step made memory disk f q l (found false memory l (f.position q)) ≡ outcome made memory disk f q
+        pub outcome_with_ring : (l : Layout) → Some l ≡ legacy_layout page member_ring_size size → found_step made memory disk f q l (found (uses_tables f.registers) memory l (f.position q)) ≡ outcome made memory disk f q
         outcome_with_ring l some = sym (outcome_of_ring ∙ ap (ring_step made memory disk f q) (sym (some ∙ same_layout)) ∙ ring_step-some made memory disk f q l)

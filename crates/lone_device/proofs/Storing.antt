@@ -1,14 +1,14 @@
 -- What is stored is what the history says, at first and after each entry.
 use Rattle.std.proofs.Common.{◌≡◌, ℕ, zero, suc, ◌<◌, ◌≤◌, Bool, true, false, cond, List, [], ◌∷◌, ◌++◌, drop, length, refl, sym, ap, ◌∙◌, subst, inl, inr, arith}
-use Rattle.std.specs.Prelude.{nat_lt, slice_index_or}
+use Rattle.std.specs.Prelude.{nat_lt, slice_index_or, if◌then◌else◌}
 use Rattle.std.proofs.lemmas.Bool.Decides.{nat_tests}
 use Rattle.std.proofs.lemmas.Bool.{cases_lt}
 use Rattle.ring_layout.specs.declared.layout.Layout.{Layout}
 use Rattle.ring_layout.specs.declared.descriptor.Descriptor.{Descriptor}
-use Rattle.ring_layout.specs.Chain.{Write, written, scattered, used_writes, writable_part, available}
+use Rattle.ring_layout.specs.Chain.{Write, written, scattered, used_writes, event_write, writable_part, available}
 use Rattle.legacy_regs.specs.declared.device.Kind.{Kind}
 use Rattle.legacy_regs.specs.declared.device.Kind.TheVariants.{Block, Net}
-use Rattle.legacy_regs.specs.Registers.{queue_count}
+use Rattle.legacy_regs.specs.Registers.{queue_count, uses_events}
 use Rattle.group_calls.specs.declared.member.MemberMade.{MemberMade}
 use Rattle.group_calls.specs.declared.member.Why.TheVariants.{Range}
 use Rattle.group_calls.specs.declared.member.MemberCall.{MemberCall}
@@ -21,7 +21,7 @@ use Rattle.group_calls.specs.declared.lone.LoneReply.TheVariants.{Other}
 use Rattle.group_calls.specs.declared.lone.LoneItem.{LoneItem}
 use Rattle.group_calls.specs.MemberEntries.{MemberEntry, is_done, since_reset}
 use Rattle.group_calls.specs.Facts.{Facts, facts}
-use Rattle.group_calls.specs.Steps.{Outcome, serves, service, interrupt, outcome, outcome_reply}
+use Rattle.group_calls.specs.Steps.{Outcome, serves, service, interrupt, event_writes, outcome, outcome_reply}
 use Rattle.group_calls.specs.Storage.{memory_left, memory_then, memory_after, disk_after}
 use Rattle.group_calls.specs.Replay.{disk_left, disk_then}
 use Rattle.group_calls.specs.Member.{is_killed, gone_floor, fits, answer_by, mem_write_answer, member_answer}
@@ -170,7 +170,7 @@ written-append (w ∷ ws) us memory = written-append ws us _
 service-is : (memory : List ℕ) (f : Facts) (q : ℕ) (l : Layout) (ds : List Descriptor) (reply disk sent : List ℕ)
     → service memory f q l ds reply disk sent ≡ serves record {
       reply = reply;
-      writes = scattered (writable_part ds) reply ++ used_writes l (f.position q) (available memory l (f.position q)) (length reply);
+      writes = scattered (writable_part ds) reply ++ used_writes l (f.position q) (available memory l (f.position q)) (length reply) ++ event_writes f q l;
       disk = disk;
       sent = sent;
       irq = interrupt memory f q l;
@@ -185,11 +185,23 @@ module _ (memory disk : List ℕ) (f : Facts) (q : ℕ) (s : Service) where
   pub service_reply : Served (length s.reply) (interrupt memory f q s.layout) s.sent ≡ outcome_reply served
   service_reply = rw service-is refl
 
-  pub service_memory : (position : ℕ) → position ≡ f.position q → s.chain.head ≡ available memory s.layout position
-      → written (used_writes s.layout position s.chain.head (length s.reply)) (written (scattered (writable_part s.chain.parts) s.reply) memory) ≡ memory_left memory served
-  service_memory position position_is head_is = rw service-is
-      ((λ i. written (used_writes s.layout (position_is i) ((head_is ∙ ap (available memory s.layout) position_is) i) (length s.reply)) (written (scattered (writable_part s.chain.parts) s.reply) memory))
-      ∙ sym (written-append (scattered (writable_part s.chain.parts) s.reply) (used_writes s.layout (f.position q) (available memory s.layout (f.position q)) (length s.reply)) memory))
+  -- the memory once the reply is in its chain, the chain in the used ring, and the next position asked for
+  pub service_memory : {position head count : ℕ} {event : Bool} {replied used asked : List ℕ}
+      → position ≡ f.position q → event ≡ uses_events f.registers → head ≡ available memory s.layout (f.position q) → count ≡ length s.reply
+      → replied ≡ written (scattered (writable_part s.chain.parts) s.reply) memory
+      → used ≡ written (used_writes s.layout position head count) replied
+      → asked ≡ written (if event then event_write s.layout position ∷ [] else []) used
+      → asked ≡ memory_left memory served
+  service_memory position_is event_is head_is count_is replied_is used_is asked_is =
+      let replies : List Write = scattered (writable_part s.chain.parts) s.reply in
+      let uses : List Write = used_writes s.layout (f.position q) (available memory s.layout (f.position q)) (length s.reply) in
+      let asks : List Write = event_writes f q s.layout in
+      asked_is
+      ∙ (λ i. written (if event_is i then event_write s.layout (position_is i) ∷ [] else []) (used_is i))
+      ∙ (λ i. written asks (written (used_writes s.layout (position_is i) (head_is i) (count_is i)) (replied_is i)))
+      ∙ ap (written asks) (sym (written-append replies uses memory))
+      ∙ sym (written-append (replies ++ uses) asks memory)
+      ∙ sym (ap (memory_left memory) (service-is memory f q s.layout s.chain.parts s.reply (disk_served s disk) s.sent))
 
   pub service_disk : disk_served s disk ≡ disk_left disk served
   service_disk = rw service-is refl

@@ -1,9 +1,10 @@
 //! What a step does with a chain.
-ghost use Rattle.std.specs.Prelude.{◌≡◌, ◌<◌, ◌≤◌, ℕ, List, length, IfOk, false};
+ghost use Rattle.std.specs.Prelude.{◌≡◌, ◌<◌, ◌≤◌, ℕ, List, length, IfOk};
 ghost use Rattle.ring_layout.specs.Layout.{LiesIn};
 ghost use Rattle.ring_layout.specs.Chain.{found, available};
 ghost use Rattle.ring_device.specs.Buffers.{LieIn};
 ghost use Rattle.net_engine.specs.Frames.{transmitted};
+ghost use Rattle.legacy_regs.specs.Registers.{uses_tables};
 ghost use Rattle.group_calls.specs.Facts.{Facts};
 ghost use Rattle.group_calls.specs.Steps.{block_step, receive_step, transmit_step, chain_step, found_step, frame_or_nothing};
 ghost use Rattle.lone_device.specs.Seen.{waiting, seen_facts};
@@ -129,7 +130,8 @@ impl Stored {
         }
     }
 
-    /// What stands at the queue's position in its ring (VIRTIO 1.3, 2.7.5 and 2.7.6).
+    /// What stands at the queue's position in its ring (VIRTIO 1.3, 2.7.5 and 2.7.6). A chain may have a table of
+    /// descriptors where the driver accepted these (2.7.5.3).
     pub(crate) fn ring_step(
         &self,
         seen: &Seen,
@@ -139,11 +141,13 @@ impl Stored {
         requires sized { IsSized self.now }
         requires ring { LiesIn (length self.now.memory) layout }
         ensures told { IfOk result (λ outcome. as_outcome self.now.memory self.now.disk (seen_facts seen.now) queue outcome
-            ≡ found_step self.now.made self.now.memory self.now.disk (seen_facts seen.now) queue layout (found false self.now.memory layout ((seen_facts seen.now).position queue))) }
+            ≡ found_step self.now.made self.now.memory self.now.disk (seen_facts seen.now) queue layout
+            (found (uses_tables seen.now.regs.registers) self.now.memory layout ((seen_facts seen.now).position queue))) }
         ensures ready { IfOk result (CanBeDone self.now.memory self.now.disk ((seen_facts seen.now).position queue)) }
     {
         let position = seen.queue(queue).position;
-        match next_chain(self.alloc, &self.memory, &layout, position, false)? {
+        let indirect = seen.regs.uses_tables();
+        match next_chain(self.alloc, &self.memory, &layout, position, indirect)? {
             Found::Chain(chain) => self.chain_step(seen, queue, layout, chain),
             Found::Empty => Ok(Outcome::Stops(MemberReply::Empty)),
             Found::Bad(Bad::Index) => Ok(Outcome::Stops(MemberReply::Halted(Halt::Index))),

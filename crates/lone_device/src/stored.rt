@@ -1,9 +1,10 @@
 //! Memory and disk.
 ghost use Rattle.std.specs.Prelude.{◌≡◌, ◌<◌, ◌≤◌, List, [], ◌∷◌, length, IfOk, OnOk, nat_lt, not, ◌&&◌, if◌then◌else◌};
+ghost use Rattle.ring_layout.specs.Layout.{LiesIn};
+ghost use Rattle.ring_layout.specs.Chain.{event_write, written};
 ghost use Rattle.legacy_regs.specs.Registers.{queue_count};
 ghost use Rattle.legacy_regs.specs.Interrupts.{queue_irq};
 ghost use Rattle.group_calls.specs.MemberQueues.{receives as receives_of};
-ghost use Rattle.ring_layout.specs.Chain.{written, scattered, used_writes, writable_part};
 ghost use Rattle.group_calls.specs.declared.member.MemberMade.{MemberMade};
 ghost use Rattle.group_calls.specs.Member.{IsMemberMade, fits as fits_of, mem_write_answer, mem_read_answer};
 ghost use Rattle.group_calls.specs.Steps.{are_none, outcome_reply, interrupt};
@@ -11,6 +12,7 @@ ghost use Rattle.group_calls.specs.Storage.{sectors_of, memory_left, memory_then
 ghost use Rattle.group_calls.specs.Replay.{disk_left, disk_then};
 ghost use Rattle.group_calls.specs.declared.lone.LoneItem.{LoneItem};
 ghost use Rattle.group_calls.specs.Lone.{as_history, lone_reply};
+ghost use Rattle.lone_device.specs.declared.service.Outcome.TheVariants.{Serves};
 ghost use Rattle.lone_device.specs.Seen.{Stands, waiting, seen_facts};
 ghost use Rattle.lone_device.specs.Service.{as_outcome, CanBeDone, IsUsable, disk_served, does, IsSized, Holds, FitsMemory};
 
@@ -24,8 +26,8 @@ use group_calls::{
 };
 use guest_mem::{GuestMem, PAGE_SIZE};
 use legacy_regs::MEMBER_RING_SIZE;
-use ring_device::{put_used, scatter, wants_interrupt};
-use ring_layout::legacy;
+use ring_device::{put_event, put_used, scatter, wants_interrupt};
+use ring_layout::{Layout, legacy};
 use std::alloc::{AllocError as NoMemory, Global};
 
 /// The memory and the disk of a device that was made so.
@@ -65,6 +67,17 @@ pub(crate) fn write_answer(made: &MemberMade, addr: u64, bytes: &Bytes) -> Membe
         MemberReply::Written
     } else {
         MemberReply::Refused(Why::Range)
+    }
+}
+
+// Asks for a notification of the next position, where event indices are used (VIRTIO 1.3, 2.7.10).
+fn ask_of_next(memory: &mut GuestMem, layout: &Layout, position: u16, event: bool)
+    requires { LiesIn (length memory.old) layout.now }
+    ensures written { memory.new ≡ written (if event then event_write layout.now position ∷ [] else []) memory.old }
+    ensures length { length memory.new ≡ length memory.old }
+{
+    if event {
+        put_event(memory, layout, position);
     }
 }
 
@@ -138,11 +151,12 @@ impl Stored {
         }
     }
 
-    // Puts a service's reply into its chain and the chain into the used ring at a position, and tells the disk.
-    fn put(&mut self, position: u16, service: &Service)
-        requires { IsUsable self.old.memory self.old.disk position service.now }
-        ensures memory { self.new.memory ≡ written (used_writes service.now.layout position service.now.chain.head (length service.now.reply))
-            (written (scattered (writable_part service.now.chain.parts) service.now.reply) self.old.memory) }
+    // Puts a service's reply into its chain and the chain into the used ring at the queue's position (VIRTIO 1.3, 2.7.8),
+    // asks for a notification of the next position where event indices are used, and tells the disk.
+    fn put(&mut self, seen: &Seen, queue: u16, service: &Service)
+        requires { IsUsable self.old.memory self.old.disk ((seen_facts seen.now).position queue) service.now }
+        ensures memory { self.new.memory
+            ≡ memory_left self.old.memory (as_outcome self.old.memory self.old.disk (seen_facts seen.now) queue (Serves service.now)) }
         ensures disk { self.new.disk ≡ disk_served service.now self.old.disk }
         ensures made { self.new.made ≡ self.old.made }
         ensures length { length self.new.memory ≡ length self.old.memory }
@@ -150,13 +164,15 @@ impl Stored {
         let writable = service.chain.writable();
         prove!(writable < 134_217_728);
         let count = service.reply.as_slice().len() as u32;
+        let position = seen.queue(queue).position;
+        let head = service.chain.head();
         scatter(&mut self.memory, &service.chain, &service.reply);
-        put_used(
+        put_used(&mut self.memory, &service.layout, position, head, count);
+        ask_of_next(
             &mut self.memory,
             &service.layout,
             position,
-            service.chain.head(),
-            count,
+            seen.regs.uses_events(),
         );
         if let Some(request) = &service.request {
             put(&mut self.disk, request.put_at, &request.bytes);
@@ -186,7 +202,7 @@ impl Stored {
             }
             (MemberCall::Step { queue }, MemberReply::Served { .. }) => {
                 if let Outcome::Serves(service) = self.outcome(seen, *queue)? {
-                    self.put(seen.queue(*queue).position, &service);
+                    self.put(seen, *queue, &service);
                 }
             }
             _ => {}
@@ -211,7 +227,8 @@ impl Stored {
         }
     }
 
-    // The reply of a service, whose interrupt is raised unless the guest wants none (VIRTIO 1.3, 2.7.7).
+    // The reply of a service, whose interrupt is raised where the guest wants one for the queue's position (VIRTIO 1.3,
+    // 2.7.7).
     fn served(&self, seen: &mut Seen, queue: u16, service: Service) -> MemberReply
         requires { IsUsable self.now.memory self.now.disk ((seen_facts seen.old).position queue) service }
         ensures { result ≡ MemberReply.Served (length service.reply) (interrupt self.now.memory (seen_facts seen.old) queue service.layout) service.sent }
@@ -220,7 +237,8 @@ impl Stored {
         prove!(writable < 134_217_728);
         let length = service.reply.as_slice().len() as u32;
         let position = seen.queue(queue).position;
-        let irq = if wants_interrupt(&self.memory, &service.layout, position, false) {
+        let event = seen.regs.uses_events();
+        let irq = if wants_interrupt(&self.memory, &service.layout, position, event) {
             seen.regs.raise(queue)
         } else {
             Irq::Silent

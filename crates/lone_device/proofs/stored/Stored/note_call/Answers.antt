@@ -1,12 +1,10 @@
-use Rattle.std.proofs.Common.{◌≡◌, sym, ap, ◌∙◌, subst}
-use Rattle.ring_layout.specs.Chain.{available}
+use Rattle.std.proofs.Common.{◌≡◌, sym, ap, ◌∙◌}
 use Rattle.group_calls.specs.Storage.{memory_left, memory_then}
 use Rattle.group_calls.specs.Replay.{disk_left, disk_then}
-use Rattle.lone_device.specs.declared.queue.QueueSeen.{QueueSeen}
 use Rattle.lone_device.specs.declared.service.Outcome.TheVariants.{Serves}
 use Rattle.lone_device.specs.Seen.{seen_facts}
-use Rattle.lone_device.specs.Service.{as_outcome, CanBeDone, IsUsable, does}
-use Rattle.lone_device.proofs.Storing.{service_memory, service_disk}
+use Rattle.lone_device.specs.Service.{as_outcome, does}
+use Rattle.lone_device.proofs.Storing.{service_disk}
 use Rattle.lone_device.proofs.stored.Stored.note_call.Goals as goal
 
 pub returns-in-Serves-clause-memory : goal.returns-in-Serves-clause-memory
@@ -16,12 +14,8 @@ returns-in-Serves-clause-memory c = λ fits.
     let f = seen_facts s in
     let step = c.in-Step-Served in
     let service = c.in-Serves.service in
-    let found = c.in_ok-service-in-Step-Served in
-    let usable : IsUsable d.memory d.disk (f.position step.queue) service = subst (CanBeDone d.memory d.disk (f.position step.queue)) c.in-Serves.is found.ensures.ready in
-    let position : c.queue.result.position ≡ f.position step.queue = ap (λ (x : QueueSeen). x.position) c.queue.ensures in
-    let told : as_outcome d.memory d.disk f step.queue (Serves service) ≡ does d s step.queue = ap (as_outcome d.memory d.disk f step.queue) (sym c.in-Serves.is) ∙ found.ensures.told in
+    let told : as_outcome d.memory d.disk f step.queue (Serves service) ≡ does d s step.queue = ap (as_outcome d.memory d.disk f step.queue) (sym c.in-Serves.is) ∙ c.in_ok-service-in-Step-Served.ensures.told in
     c.put.ensures.memory
-    ∙ service_memory d.memory d.disk f step.queue service c.queue.result.position position (usable.head ∙ ap (available d.memory service.layout) (sym position))
     ∙ ap (memory_left d.memory) told
     ∙ sym (λ i. memory_then (does d s) d.memory (step.is-0 i) (step.is-1 i))
 
