@@ -172,5 +172,5 @@ fn registers_go_by_the_tables(rt: HostRuntime) {
         sectors: 0,
         read_only: true,
     });
-    assert!(rt; reads(&mut read_only, Common, 0, 4, 0x0800_0a60));
+    assert!(rt; reads(&mut read_only, Common, 0, 4, 0x3800_0a60));
 }
