@@ -29,7 +29,7 @@ from telling import tell
 RESET = "board 1 4 0\nguest 1 block 1 8\nguest 2 block 1 8\ng1 in 12 2\ng1 in 0 4\ng1 in 18 1\ng2 peek 0 2\nhost reset\ngo g1 12 host 9\n"
 CHANGES = {
     "another_answer": ("4 1000", "4 1100", "gave 1100, and alone 1000"),
-    "an_answer_in_doubt_that_is_not_all_ones": ("5 ffffffff", "5 00000000", "gave 00000000, and alone 400a0008"),
+    "an_answer_in_doubt_that_is_not_all_ones": ("5 ffffffff", "5 00000000", "gave 00000000, and alone 400a0038"),
     "an_answer_behind_the_end_that_is_not_all_ones": ("6 ff", "6 00", "came behind the member's end and gave 00"),
     "another_event": ("act common-read 12 2 -> data 1000", "act common-read 14 2 -> data 1000", "has no event, and a later line has one"),
     "an_event_of_another_actor": ("g2 memread 0 2", "w0 memread 0 2", "'peek 0 2' has no event"),
