@@ -1,12 +1,14 @@
-"""Compares the two devices: the one that `alone` asks, which looks back over the events of its guest, and the members of
-`step`, which keep what they hold. A guest whose script has no other actor, but for frames that come first, is shown the
-same by both. The scripts are those of the cases of `alone`, and some that are drawn from a seed.
+"""Compares the two devices: the one that `alone` asks, which looks back over the events of its guest, and the members
+of `step`, which keep what they hold. A guest whose script has no other actor, but for frames that come first, is shown
+the same by both. The scripts are those of the cases of `alone`, and some that are drawn from a seed.
 """
 import subprocess
 
 DRAWN = 60
-LINES = 60
+LINES = 80
 SECONDS = 120
+INDIRECT, TABLE = 4, 24576
+INDIRECT_DESC, EVENT_IDX = 1 << 28, 1 << 29
 
 
 def le(value, size):
@@ -41,22 +43,33 @@ def descriptor(at, length, flags, following):
 
 
 def any_descriptor(draw):
-    length = draw.among([0, 1, 10, 16, 24, 512, 600, 5000])
-    return descriptor(draw.among([12288, 16384, 20480, draw.below(32000)]), length, draw.below(4), draw.below(16))
+    length = draw.among([0, 1, 10, 16, 32, 48, 512, 600, 5000])
+    address = draw.among([12288, 16384, 20480, TABLE, draw.below(32000)])
+    return descriptor(address, length, draw.below(8), draw.below(16))
 
 
 def usual_chain(draw):
     """What a driver makes: bytes to read, and bytes to write behind them."""
-    return descriptor(12288, draw.among([16, 40, 528]), 1, 1) + descriptor(16384, draw.among([1, 513, 1600]), 2, 0) + descriptor(16384, 1600, 2, 0)
+    readable = descriptor(12288, draw.among([16, 40, 528]), 1, 1)
+    return readable + descriptor(16384, draw.among([1, 513, 1600]), 2, 0) + descriptor(16384, 1600, 2, 0)
 
 
 def ring(draw, queue, at):
-    """A ring for a queue, with a chain or none at each of its entries, and a notification."""
-    table = usual_chain(draw) if draw.below(3) else "".join(any_descriptor(draw) for _ in range(4))
+    """A ring for a queue, with a chain or none at each of its entries, with a table of descriptors and events or without,
+    and a notification."""
+    chain = usual_chain(draw) if draw.below(3) else "".join(any_descriptor(draw) for _ in range(4))
+    named = descriptor(TABLE, draw.among([32, 32, 48, 64, 24]), INDIRECT, 0) + usual_chain(draw)
     request = le(draw.among([0, 1, 4, 8, 9]), 4) + le(0, 4) + le(draw.below(10), 8) + "5a" * 24
     entries = "".join(le(draw.among([0, 0, 0, 2, draw.below(5)]), 2) for _ in range(16))
-    return [f"g1 out 14 {le(queue, 2)}", f"g1 out 8 {le(at // 4096, 4)}", f"g1 mem {at} {table}", f"g1 mem {draw.among([12288, 12288, 16384])} {request}",
-            f"g1 mem {at + 256} {le(draw.below(2), 2)}{le(draw.below(18), 2)}{entries}", f"g1 out 16 {le(queue, 2)}"]
+    used_event = le(draw.among([0, 0, 1, 2, draw.below(18)]), 2)
+    return [
+        f"g1 out 4 {le(draw.among([0, INDIRECT_DESC, EVENT_IDX, INDIRECT_DESC | EVENT_IDX]), 4)}",
+        f"g1 out 14 {le(queue, 2)}", f"g1 out 8 {le(at // 4096, 4)}",
+        f"g1 mem {at} {draw.among([chain, named])}", f"g1 mem {TABLE} {chain}",
+        f"g1 mem {draw.among([12288, 12288, 16384])} {request}",
+        f"g1 mem {at + 256} {le(draw.below(2), 2)}{le(draw.below(18), 2)}{entries}{used_event}",
+        f"g1 out 16 {le(queue, 2)}",
+    ]
 
 
 def line(draw, is_block, top):
@@ -68,7 +81,8 @@ def line(draw, is_block, top):
         return [f"g1 poll {queue}"]
     if choice < 12:
         return ring(draw, 0 if is_block else queue, 4096 * (1 + queue))
-    return [draw.among(["g1 irqs", f"g1 msix {draw.among(['on', 'off'])}", f"g1 peek {4096 * (1 + queue) + 4096 // 2} 64", f"g1 peek {draw.below(32000)} 16"])]
+    peeks = [f"g1 peek {8192 + 4096 * queue} 134", f"g1 peek {draw.below(32000)} 16"]
+    return [draw.among(["g1 irqs", f"g1 msix {draw.among(['on', 'off'])}", *peeks])]
 
 
 def drawn(seed):
@@ -76,7 +90,8 @@ def drawn(seed):
     draw = Drawing(seed)
     is_block = draw.below(2) == 0
     guest = f"guest 1 block 8 8{draw.among(['', ' ro'])}" if is_block else "guest 1 net 8 020000000001"
-    frames = [f"host frame 1 {'%02x' % draw.below(256) * draw.among([14, 60, 1514])}" for _ in range(0 if is_block else draw.among([0, 2, 66]))]
+    count = 0 if is_block else draw.among([0, 2, 66])
+    frames = [f"host frame 1 {'%02x' % draw.below(256) * draw.among([14, 60, 1514])}" for _ in range(count)]
     lines = []
     while len(lines) < LINES:
         lines += line(draw, is_block, 64 if is_block else 32)
@@ -90,7 +105,7 @@ def has_one_actor(text):
 
 
 def transcript(program, command, text):
-    done = subprocess.run([program, command], input=text, stdout=subprocess.PIPE, stderr=subprocess.PIPE, timeout=SECONDS)
+    done = subprocess.run([program, command], input=text, capture_output=True, timeout=SECONDS)
     first = [b"owner", b"end"]
     lines = done.stdout.split(b"\n")
     ends = [at for at, it in enumerate(lines) if it in first]
