@@ -55,8 +55,8 @@ def usual_chain(draw):
 
 
 def ring(draw, queue, at):
-    """A ring for a queue, with a chain or none at each of its entries, with a table of descriptors and events or without,
-    and a notification."""
+    """A ring for a queue, with a chain or none at each of its entries, and a notification. The driver may have accepted
+    tables of descriptors and event indices, and some chains have a table."""
     chain = usual_chain(draw) if draw.below(3) else "".join(any_descriptor(draw) for _ in range(4))
     named = descriptor(TABLE, draw.among([32, 32, 48, 64, 24]), INDIRECT, 0) + usual_chain(draw)
     request = le(draw.among([0, 1, 4, 8, 9]), 4) + le(0, 4) + le(draw.below(10), 8) + "5a" * 24
