@@ -272,19 +272,42 @@ def scripts():
     yield "a_reset_in_an_access", "board 1 4 1\nguest 1 block 1 8\nguest 2 net 1 020000000002\ng1 in 18 1\ng2 in 18 1\nhost reset\ngo g1 1 w0 1 host 3\n"
 
 
-# What a page says of memory in rings, by the place in member 1's history, of the script with a wrong index.
+# What a page says of memory in rings, by the place in member 1's history, of two examples.
 RINGS = {
-    4: "", 5: "queue 0, descriptor 0: 16 at 12288, then 1; descriptor 1: 21 at 12800, WRITE",
-    6: "queue 0, available ring: flags 0, idx 256, entry 0: head 0", 11: "queue 0, available ring: idx 1",
-    15: "queue 0, used ring: flags 0, idx 0", 20: "queue 0, used ring: flags 0, idx 1", 21: "",
+    "hang_wrong_index": {
+        4: "", 5: "queue 0, descriptor 0: 16 at 12288, then 1; descriptor 1: 21 at 12800, WRITE",
+        6: "queue 0, available ring: flags 0, idx 256, entry 0: head 0", 11: "queue 0, available ring: idx 1",
+        15: "queue 0, used ring: flags 0, idx 0", 20: "queue 0, used ring: flags 0, idx 1", 21: "",
+    },
+    "block_tables_and_events": {
+        12: "",
+        14: "queue 0, table of descriptor 0: descriptor 0: 16 at 12288, then 1; descriptor 1: 512 at 12800, then 2; "
+            "descriptor 2: 1 at 12304, WRITE",
+        15: "queue 0, descriptor 0: 48 at 12544, INDIRECT", 24: "queue 0, available ring: used_event 1",
+        39: "queue 0, table of descriptor 0: descriptor 0: 16 at 13824, then 1; descriptor 1: 1 at 13840, WRITE",
+        41: "queue 0, descriptor 0: 32 at 12672, INDIRECT; descriptor 1: 32 at 12736, INDIRECT",
+        45: "queue 0, used ring: avail_event 2",
+    },
 }
 
 
-def rings_fault():
-    script = read(os.path.join(TOP, "examples", "hang_wrong_index.script"))
+def rings_fault(name):
+    script = read(os.path.join(TOP, "examples", f"{name}.script"))
     run = data_of(pictured(reference.answer("step", script))[1])
-    said = {it["place"]: it["ring"] for it in run["entries"] if it["cell"] == "member 1" and it["place"] in RINGS}
-    return None if said == RINGS else f"{said}"
+    entries = [it for it in run["entries"] if it["cell"] == "member 1" and it["place"] in RINGS[name]]
+    said = {it["place"]: it["ring"] for it in entries}
+    return None if said == RINGS[name] else f"{said}"
+
+
+def features_fault():
+    """What a page says of the features of a device and of those that its driver accepts."""
+    script = "board 1 4 0\nguest 1 block 1 8\ng1 in 0 4\ng1 out 4 00000030\ng1 out 4 400a0008\n"
+    run = data_of(pictured(reference.answer("step", script))[1])
+    said = [it["call"] + ": " + it["reply"] for it in run["entries"] if it["cell"] == "member 1" and it["who"] == "g1"]
+    expected = ["read device features: 400a0038 (with INDIRECT_DESC and EVENT_IDX)",
+                "write driver features = 00000030 (with INDIRECT_DESC and EVENT_IDX): done",
+                "write driver features = 400a0008: done"]
+    return None if said == expected else f"{said}"
 
 
 def cases():
@@ -305,7 +328,9 @@ def cases():
         if program is not None and name == "example_two_guests":
             yield f"picture_under_the_pointer_{name}", lambda: pointer_fault(program, page)
             yield f"picture_after_clicks_{name}", lambda: clicks_fault(program, page)
-    yield "picture_says_what_stands_in_rings", rings_fault
+    for name in RINGS:
+        yield f"picture_says_what_stands_in_rings_of_{name}", lambda: rings_fault(name)
+    yield "picture_names_features_of_queues", features_fault
     text = reference.answer("step", "board 1 4 0\nguest 1 block 1 8\ng1 in 12 2\n")
     for name, script in (("another_script", "board 1 4 0\nguest 1 block 1 8\n\ng1 in 12 2\n"), ("another_line", "board 1 4 0\nguest 1 block 1 8\ng1 in 12 1\n")):
         yield f"picture_refuses_{name}", lambda: refusal_fault(text, "the script isn't the one of this output", script)

@@ -1,14 +1,88 @@
-"""What the bytes that a guest writes and reads are in its rings, where they lie in one (docs/formats.md, 'Rings')."""
+"""What the bytes that a guest writes and reads are in its rings, and in the tables of descriptors that these name
+(docs/formats.md, 'Rings')."""
+import itertools
 
 PAGE, SIZE, QUEUES = 4096, 16, 2
+LONGEST_MEMORY, LONGEST_TABLE = 64 * PAGE, 128
 ADDRESS, SELECT, STATUS = range(8, 12), range(14, 16), 18
-TABLE, AVAILABLE, USED = 0, 16 * SIZE, PAGE
 NEXT, WRITE, INDIRECT, NO_INTERRUPT = 1, 2, 4, 1
 
 
 def number(data):
     return int.from_bytes(data, "little")
 
+
+# ---- the words of a field
+
+def plain(name):
+    return lambda data: f"{name} {number(data)}"
+
+
+def flags_words(data):
+    return f"flags {number(data)}{' (NO_INTERRUPT)' if number(data) == NO_INTERRUPT else ''}"
+
+
+def element(index):
+    return lambda data: f"element {index}: head {number(data[:4])}, {number(data[4:])} bytes"
+
+
+class Descriptor:
+    """What the 16 bytes of a descriptor are."""
+
+    def __init__(self, data):
+        self.address, self.length, self.next = number(data[:8]), number(data[8:12]), number(data[14:16])
+        self.flags = number(data[12:14])
+
+    def words(self):
+        names = [name for name, flag in (("WRITE", WRITE), ("INDIRECT", INDIRECT)) if self.flags & flag]
+        follower = [f"then {self.next}"] if self.flags & NEXT else []
+        return ", ".join([f"{self.length} at {self.address}", *follower, *names])
+
+    def names_a_table(self):
+        count, rest = divmod(self.length, 16)
+        return bool(self.flags & INDIRECT) and rest == 0 and 1 <= count <= LONGEST_TABLE
+
+
+def descriptor(index):
+    return lambda data: f"descriptor {index}: {Descriptor(data).words()}"
+
+
+class Part:
+    """A part of a ring, or a table: where it begins, and its fields one after the other, each a length and what gives
+    its words."""
+
+    def __init__(self, begin, fields, name="", joint=", "):
+        ends = list(itertools.accumulate((length for length, _ in fields), initial=begin))
+        self.begin, self.end, self.name, self.joint = begin, ends[-1], name, joint
+        self.fields = [(at, length, words) for at, (length, words) in zip(ends, fields)]
+
+    def covers(self, at, length):
+        return 0 < length and self.begin <= at and at + length <= self.end
+
+    def words(self, at, data):
+        """What these bytes are, where they begin and end with whole fields; else nothing."""
+        found, told = [], 0
+        for begin, length, words in self.fields:
+            if at <= begin and begin + length <= at + len(data):
+                found.append(words(data[begin - at:begin - at + length]))
+                told += length
+        return self.name + self.joint.join(found) if told == len(data) else ""
+
+
+def table(begin, count, name=""):
+    return Part(begin, [(16, descriptor(index)) for index in range(count)], name, "; ")
+
+
+HEADS = [(2, plain(f"entry {index}: head")) for index in range(SIZE)]
+ELEMENTS = [(8, element(index)) for index in range(SIZE)]
+PARTS = [
+    table(0, SIZE),
+    Part(16 * SIZE, [(2, flags_words), (2, plain("idx")), *HEADS, (2, plain("used_event"))], "available ring: "),
+    Part(PAGE, [(2, plain("flags")), (2, plain("idx")), *ELEMENTS, (2, plain("avail_event"))], "used ring: "),
+]
+
+
+# ---- where rings and tables are
 
 class Addresses:
     """Where the rings of one member stand, as far as its history has gone."""
@@ -26,7 +100,7 @@ class Addresses:
         if entry.call[0] == "flr":
             self.reset()
         elif entry.call[:2] == ["act", "common-write"]:
-            offset, data = int(entry.call[2]), bytes.fromhex(entry.call[3].replace("-", ""))
+            offset, data = int(entry.call[2]), bytes_of(entry.call[3])
             if (offset, data) == (STATUS, b"\0"):
                 self.reset()
             elif offset in SELECT:
@@ -39,73 +113,97 @@ class Addresses:
         return [(queue, PAGE * number(page)) for queue, page in enumerate(self.pages) if number(page)]
 
 
-def descriptor_words(index, data):
-    address, length, flags, after = number(data[:8]), number(data[8:12]), number(data[12:14]), number(data[14:16])
-    more = [f"then {after}"] * bool(flags & NEXT) + ["WRITE"] * bool(flags & WRITE) + ["INDIRECT"] * bool(flags & INDIRECT)
-    return f"descriptor {index}: {', '.join([f'{length} at {address}', *more])}"
+class Named:
+    """A table that a descriptor of a ring names, from one place of the member's history on, up to another."""
+
+    def __init__(self, queue, index, found, since):
+        self.queue, self.since, self.until = queue, since, None
+        self.part = table(found.address, found.length // 16, f"table of descriptor {index}: ")
+
+    def is_in_force(self, place):
+        return self.since <= place and (self.until is None or place < self.until)
 
 
-def table_words(at, data):
-    if at % 16 or len(data) % 16:
-        return ""
-    return "; ".join(descriptor_words((at + begin) // 16, data[begin:begin + 16]) for begin in range(0, len(data), 16))
+class Tables:
+    """The tables that the descriptors of one member's rings name, as the guest wrote them."""
+
+    def __init__(self):
+        self.memory, self.latest, self.named = bytearray(LONGEST_MEMORY), {}, []
+
+    def note(self, place, rings, address, data):
+        """What a write of the guest's leaves of them."""
+        self.memory[address:address + len(data)] = data
+        for queue, start in rings:
+            for index in range(SIZE):
+                at = start + 16 * index
+                if address < at + 16 and at < address + len(data):
+                    self.name(place, queue, index, Descriptor(self.memory[at:at + 16]))
+
+    def name(self, place, queue, index, found):
+        latest = self.latest.pop((queue, index), None)
+        if latest:
+            latest.until = place
+        if found.names_a_table():
+            self.latest[queue, index] = Named(queue, index, found, place)
+            self.named.append(self.latest[queue, index])
+
+    def around(self, place, address, length):
+        """The table in which these bytes lie: one that is named at this place, else the first that is named later."""
+        found = [it for it in self.named if it.part.covers(address, length)]
+        later = [it for it in found if it.since > place]
+        return next((it for it in found if it.is_in_force(place)), later[0] if later else None)
 
 
-def head_words(at, data, name):
-    """The flags and the index with which both rings begin, as far as bytes at an even place cover them."""
-    words = []
-    if at == 0:
-        flags = number(data[:2])
-        words.append(f"flags {flags}{' (NO_INTERRUPT)' if flags == NO_INTERRUPT and name == 'available' else ''}")
-    if at <= 2 and at + len(data) >= 4:
-        words.append(f"idx {number(data[2 - at:4 - at])}")
-    return words
+# ---- a member's history
 
-
-def available_words(at, data):
-    if at % 2 or len(data) % 2:
-        return ""
-    words = head_words(at, data, "available")
-    for place in range(max(at, 4), at + len(data), 2):
-        words.append(f"entry {(place - 4) // 2}: head {number(data[place - at:place - at + 2])}")
-    return f"available ring: {', '.join(words)}"
-
-
-def used_words(at, data):
-    begin = max(at, 4)
-    if at % 2 or (begin - 4) % 8 or (at + len(data) > 4 and (at + len(data) - 4) % 8):
-        return ""
-    words = head_words(at, data, "used")
-    for place in range(begin, at + len(data), 8):
-        element = data[place - at:place - at + 8]
-        words.append(f"element {(place - 4) // 8}: head {number(element[:4])}, {number(element[4:])} bytes")
-    return f"used ring: {', '.join(words)}"
-
-
-PARTS = [(TABLE, 16 * SIZE, table_words), (AVAILABLE, 4 + 2 * SIZE, available_words), (USED, 4 + 8 * SIZE, used_words)]
+def bytes_of(digits):
+    return bytes.fromhex(digits.replace("-", ""))
 
 
 def bytes_words(rings, address, data):
-    """What these bytes are, where they lie in one part of a ring and begin and end with whole fields of it; else nothing."""
+    """What these bytes are, where they lie in one part of a ring; nothing where they begin or end inside of a field,
+    and None where they lie in no ring."""
     for queue, start in rings:
-        for begin, length, words in PARTS:
-            at = address - start - begin
-            if data and 0 <= at and at + len(data) <= length:
-                found = words(at, data)
+        for part in PARTS:
+            if part.covers(address - start, len(data)):
+                found = part.words(address - start, data)
                 return f"queue {queue}, {found}" if found else ""
-    return ""
+    return None
+
+
+def table_words(tables, place, address, data):
+    """What these bytes are in a table of descriptors that a ring names."""
+    named = tables.around(place, address, len(data))
+    found = named.part.words(address, data) if named else ""
+    return f"queue {named.queue}, {found}" if found else ""
+
+
+def memory_entries(entries):
+    """Each access of memory in a member's history: the entry, where the rings stand, the address and the bytes."""
+    addresses = Addresses()
+    for entry in entries:
+        addresses.note(entry)
+        if entry.call[0] in ("memwrite", "memread"):
+            digits = entry.call[2] if entry.call[0] == "memwrite" else entry.reply[1]
+            yield entry, addresses.rings(), int(entry.call[1]), bytes_of(digits)
+
+
+def member_words(entries):
+    """By entry (its id), what its bytes are in the member's rings at that time, or in the tables that these name."""
+    accesses, tables, found = list(memory_entries(entries)), Tables(), {}
+    for entry, rings, address, data in accesses:
+        if entry.call[0] == "memwrite":
+            tables.note(entry.place, rings, address, data)
+    for entry, rings, address, data in accesses:
+        words = bytes_words(rings, address, data)
+        found[id(entry)] = table_words(tables, entry.place, address, data) if words is None else words
+    return found
 
 
 def ring_words(output):
-    """By entry (its id), what its bytes are in the rings of its member at that time."""
+    """The same for all members."""
     found = {}
     for cell, entries in output.cells.items():
-        addresses = Addresses()
-        for entry in entries if cell.startswith("member") else []:
-            addresses.note(entry)
-            if entry.call[0] in ("memwrite", "memread"):
-                digits = entry.call[2] if entry.call[0] == "memwrite" else entry.reply[1]
-                words = bytes_words(addresses.rings(), int(entry.call[1]), bytes.fromhex(digits.replace("-", "")))
-                if words:
-                    found[id(entry)] = words
+        if cell.startswith("member"):
+            found.update(member_words(entries))
     return found

@@ -10,6 +10,7 @@ COMMON = [
     (14, 2, "queue select"), (16, 2, "queue notify"), (18, 1, "device status"), (19, 1, "ISR status"),
     (20, 2, "configuration vector"), (22, 2, "queue vector"),
 ]
+FEATURES = [(1 << 28, "INDIRECT_DESC"), (1 << 29, "EVENT_IDX")]
 STATUS_BITS = [(1, "ACKNOWLEDGE"), (2, "DRIVER"), (4, "DRIVER_OK"), (8, "FEATURES_OK"), (64, "DEVICE_NEEDS_RESET"), (128, "FAILED")]
 QUALIFIERS = {0: "", 1: ", the opcode", 2: ", a field", 3: ", the group type", 4: ", the member"}
 HALTS = {
@@ -50,6 +51,9 @@ def value(space, offset, digits):
     if space == "common" and offset == 18 and len(data) == 1:
         bits = [name for bit, name in STATUS_BITS if data[0] & bit]
         return f"{digits} ({', '.join(bits) or 'no bit'})"
+    if space == "common" and offset in (0, 4) and len(data) == 4:
+        names = [name for bit, name in FEATURES if number_of(digits) & bit]
+        return f"{digits} (with {' and '.join(names)})" if names else digits
     if space == "common" and offset == 8 and len(data) == 4:
         return f"{digits} (page {number_of(digits)})"
     if space == "common" and offset in (12, 14, 20, 22) and len(data) == 2 and digits != "ffff":
