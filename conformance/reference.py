@@ -6,7 +6,8 @@
 
 It shares nothing with the proved program and isn't proved. It is there to be compared with: what the cases of
 conformance/cases expect of whole outputs comes from it, and tools/fuzz compares the two on random texts.
-It takes a text that has no fault, and prints what the program prints.
+It takes a text that has no fault, and prints what the program prints. Here are its actors, its board and its words;
+reference_cells.py has owner, queues and members, reference_device.py a member's device, reference_ring.py the rings.
 """
 import sys
 
