@@ -103,7 +103,7 @@ def cases(program):
     yield "trial_passes_the_order_of_step", (None if tool_over(in_turn, "threads", "--count", "1")[0] == 0 else "the order of step is refused")
     other = f"case $1 in run) '{program}' run | sed 's/ g1 complete / g2 complete /';; *) '{program}' $1;; esac"
     yield "trial_tells_of_another_who_completes", telling_fault(other, "completes what another fetched", "threads", "--count", "3")
-    swapped = f"'{program}' \"$@\" | sed 's/ -> served 1 / -> served 2 /'"
+    swapped = f"case $1 in step) '{program}' step | sed 's/ -> served 1 / -> served 2 /';; *) '{program}' $1;; esac"
     yield "trial_tells_of_another_reply", telling_fault(swapped, "and the reference '", "fuzz", "--count", "12", "--share", "1")
 
 
