@@ -66,7 +66,7 @@ impl<Call: Drop, Reply: Drop> Log<Call, Reply> {
         ensures entries { self.new.entries ≡ entry ∷ self.old.entries }
         ensures never_less { self.old.room ≤ self.new.room }
     {
-        let _ = self.entries.push(entry);
+        self.entries.push_reserved(entry);
     }
 
     /// Appends an entry.
@@ -74,7 +74,8 @@ impl<Call: Drop, Reply: Drop> Log<Call, Reply> {
         ensures ok { OnOk result (self.new.entries ≡ entry ∷ self.old.entries) }
         ensures err { OnErr result (self.new.entries ≡ self.old.entries) }
     {
-        self.entries.push(entry)?;
+        self.entries.reserve(1)?;
+        self.entries.push_reserved(entry);
         Ok(())
     }
 }
