@@ -82,6 +82,15 @@ impl Server {
         }
     }
 
+    /// Puts the next ask in this place, or nothing once the service has ended. Judge is asked with at most 256 writable
+    /// bytes.
+    pub fn put_next(&self, ask: &mut Option<Ask>)
+        ensures value { ask.new ≡ next_ask self.now.queue self.now.stage }
+        ensures within { IfSome ask.new IsWithinAsk }
+    {
+        *ask = self.next();
+    }
+
     /// Goes on after the answer to the ask of `next`.
     pub fn feed(&mut self, told: Told)
         requires { IsSomeAnd (next_ask self.old.queue self.old.stage) (λ ask. AnswersAsk ask told) }

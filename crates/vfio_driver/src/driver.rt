@@ -1,5 +1,5 @@
 //! The driver of one member.
-ghost use Rattle.std.specs.Prelude.{◌≡◌, ◌+◌, Some, true, false, IsSomeAnd};
+ghost use Rattle.std.specs.Prelude.{◌≡◌, ◌+◌, Some, true, false, is_none, IsSomeAnd};
 ghost use Rattle.admin_wire.specs.Numbers.{fixed_size};
 ghost use Rattle.admin_wire.specs.Writing.{legacy_bytes, result_length};
 ghost use Rattle.group_calls.specs.Asks.{AnswersAsk};
@@ -146,6 +146,17 @@ impl Driver {
         }
     }
 
+    /// Puts the next ask of the open access in this place, or nothing where no access is open.
+    pub fn put_next(&self, ask: &mut Option<Ask>)
+        ensures { ask.new ≡ next_ask self.now.guest self.now.known self.now.stage }
+    {
+        if self.is_open() {
+            *ask = Some(self.next());
+        } else {
+            *ask = None;
+        }
+    }
+
     /// Goes on after the answer to the ask of `next`. The access is answered, or asks more.
     pub fn feed(&mut self, told: Told) -> Option<Answer>
         requires { IsSomeAnd (next_ask self.old.guest self.old.known self.old.stage) (λ ask. AnswersAsk ask told) }
@@ -191,6 +202,21 @@ impl Driver {
         self.stage = after.stage;
         self.known = after.known;
         after.answer
+    }
+
+    /// Goes on as `hear` does, and puts the answer, if the access has one, in this place.
+    pub fn hear_into(&mut self, told: &Told, answer: &mut Option<Answer>)
+        requires asked { IsSomeAnd (next_ask self.old.guest self.old.known self.old.stage) (λ ask. AnswersAsk ask told.now) }
+        requires empty { is_none answer.old ≡ true }
+        ensures guest { self.new.guest ≡ self.old.guest }
+        ensures bar { self.new.bar ≡ self.old.bar }
+        ensures io { self.new.io ≡ self.old.io }
+        ensures msix { self.new.msix ≡ self.old.msix }
+        ensures stage { self.new.stage ≡ (after self.old.known self.old.stage told.now).stage }
+        ensures known { self.new.known ≡ (after self.old.known self.old.stage told.now).known }
+        ensures answer { answer.new ≡ (after self.old.known self.old.stage told.now).answer }
+    {
+        *answer = self.hear(told);
     }
 
     /// I/O is enabled or disabled for later accesses.
