@@ -1,10 +1,8 @@
 -- Why a command is completed with its status.
-use Rattle.std.proofs.Common.{◌≡◌, ℕ, ◌^◌, ◌<◌, ◌≤◌, List, [], ◌∷◌, length, Option, None, refl, sym, subst, arith, lit<}
-use Rattle.std.specs.Prelude.{◌↔◌}
+use Rattle.std.proofs.Common.{◌≡◌, ℕ, ◌^◌, ◌<◌, ◌≤◌, List, [], ◌∷◌, length, None, refl, sym, subst, arith, lit<}
 use Rattle.byte_fields.specs.Places.{le16, bytes_of}
 use Rattle.admin_wire.specs.Done.{done_of}
 use Rattle.admin_wire.proofs.ReadAgain.{status_back}
-use Rattle.admin_wire.specs.declared.command.LegacyCmd.{LegacyCmd}
 use Rattle.group_calls.specs.declared.ask.Ask.TheVariants.{Queue}
 use Rattle.group_calls.specs.declared.ask.Told.{Told}
 use Rattle.group_calls.specs.declared.ask.Told.TheVariants.{Owner as FromOwner, Queue as FromQueue, Member as FromMember, NoMemory}
@@ -16,7 +14,7 @@ use Rattle.group_calls.specs.declared.member.MemberReply.TheVariants.{Data, Writ
 use Rattle.group_calls.specs.Asks.{AnswersAsk, Exchange, AreAnswered}
 use Rattle.group_calls.specs.Queue.{Posted}
 use Rattle.serve_machine.specs.Completion.{info, completed_with, completed_under}
-use Rattle.serve_machine.specs.Grammar.{passed_on, IsJudge, IsAct, IsService, finds_nothing, is_decided, is_carried_out}
+use Rattle.serve_machine.specs.Grammar.{passed_on, IsService, finds_nothing, is_decided, is_carried_out}
 use Rattle.serve_machine.specs.Causes.{IsPerformed, IsRefused, HasItsCause}
 use Rattle.serve_machine.proofs.Replies.{IsVerdict, IsJudgeTold, judge_told, IsActReply, IsMemberTold, act_answered}
 

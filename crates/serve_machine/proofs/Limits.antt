@@ -1,5 +1,5 @@
 -- What the cells answer keeps within the limits of a service.
-use Rattle.std.proofs.Common.{◌≡◌, ℕ, ◌≤◌, Bool, true, false, List, [], ◌∷◌, Some, None, Option, sym, subst, lit≤, if◌then◌else◌}
+use Rattle.std.proofs.Common.{ℕ, ◌≤◌, Bool, true, false, List, [], ◌∷◌, Some, None, Option, sym, subst, lit≤, if◌then◌else◌}
 use Rattle.std.specs.Prelude.{not, IsSomeAnd}
 use Rattle.admin_wire.specs.declared.command.LegacyCmd.{LegacyCmd}
 use Rattle.history.specs.Look.{or_else}
@@ -18,7 +18,7 @@ use Rattle.serve_machine.specs.declared.stage.Fetched.{Fetched}
 use Rattle.serve_machine.specs.declared.stage.Stage.{Stage}
 use Rattle.serve_machine.specs.declared.stage.Stage.TheVariants.{Popping, Judging, Acting, Completing, Ended}
 use Rattle.serve_machine.specs.Grammar.{passed_on}
-use Rattle.serve_machine.specs.Service.{next_ask, after, after_pop, after_judge, completing}
+use Rattle.serve_machine.specs.Service.{next_ask, after, after_pop, completing}
 use Rattle.serve_machine.specs.Within.{writable_in, IsLow}
 
 -- both branches have it

@@ -16,7 +16,7 @@ use Rattle.group_calls.specs.Asks.{AnswersAsk, Exchange, AreAnswered}
 use Rattle.group_calls.specs.Queue.{Posted}
 use Rattle.serve_machine.specs.declared.stage.Fetched.{Fetched}
 use Rattle.serve_machine.specs.declared.stage.Stage.{Stage}
-use Rattle.serve_machine.specs.declared.stage.Stage.TheVariants.{Popping, Judging, Acting, Completing, Ended}
+use Rattle.serve_machine.specs.declared.stage.Stage.TheVariants.{Popping, Judging, Acting, Ended}
 use Rattle.serve_machine.specs.Completion.{completed_with, completed_under}
 use Rattle.serve_machine.specs.Service.{next_ask, after, after_pop, after_judge, completing}
 use Rattle.serve_machine.specs.Grammar.{FindsNothing, Finds, IsPop, IsJudge, passed_on, IsAct, IsService, finds_nothing, is_decided, is_carried_out, IsAnsweredService, BeginsService}

@@ -1,13 +1,64 @@
 //! The service as a machine.
-ghost use Rattle.std.specs.Prelude.{◌≡◌, ◌≤◌, IsSomeAnd, IfSome, is_none};
+ghost use Rattle.std.specs.Prelude.{◌≡◌, ◌≤◌, Some, IsSomeAnd, IfSome, is_none};
+ghost use Rattle.group_calls.specs.declared.ask.Ask.TheVariants.{Owner, Queue, Member};
+ghost use Rattle.group_calls.specs.declared.owner.OwnerCall.TheVariants.{Judge};
+ghost use Rattle.group_calls.specs.declared.queue.RingCall.TheVariants.{Pop, Complete};
+ghost use Rattle.group_calls.specs.declared.member.MemberCall.TheVariants.{Act};
 ghost use Rattle.group_calls.specs.Asks.{AnswersAsk};
 ghost use Rattle.group_calls.specs.Limits.{writable_limit};
 ghost use Rattle.serve_machine.specs.Service.{next_ask, after, is_serving};
 ghost use Rattle.serve_machine.specs.Within.{writable_in, IsWithinAsk};
 
 use crate::stage::Stage;
-use crate::turn::{after_judge, after_pop, completing};
+use crate::turn::{put_after_judge, put_after_pop, put_completing, put_ended};
+use admin_wire::LegacyCmd;
+use board_text::Piece;
 use group_calls::{Ask, MemberCall, OwnerCall, RingCall, Told};
+
+// The queue is asked for its next command.
+fn put_pop(queue: u32, ask: &mut Option<Ask>)
+    ensures { ask.new ≡ Some (Queue queue Pop) }
+{
+    *ask = Some(Ask::Queue {
+        index: queue,
+        call: RingCall::Pop,
+    });
+}
+
+// The owner is asked to judge the command of these bytes.
+fn put_judge(bytes: &Piece, writable: u32, ask: &mut Option<Ask>)
+    ensures { ask.new ≡ Some (Owner (Judge bytes.now writable)) }
+{
+    *ask = Some(Ask::Owner(OwnerCall::Judge {
+        bytes: bytes.copy(),
+        writable,
+    }));
+}
+
+// The member is asked for the register access.
+fn put_act(id: u32, floor: u64, access: &LegacyCmd, ask: &mut Option<Ask>)
+    ensures { ask.new ≡ Some (Member id floor (Act access.now)) }
+{
+    *ask = Some(Ask::Member {
+        id,
+        floor,
+        call: MemberCall::Act(access.copy()),
+    });
+}
+
+// The queue is asked to complete the command of this number.
+fn put_complete(queue: u32, seq: u64, bytes: &Piece, floor: u64, ask: &mut Option<Ask>)
+    ensures { ask.new ≡ Some (Queue queue (Complete seq bytes.now floor)) }
+{
+    *ask = Some(Ask::Queue {
+        index: queue,
+        call: RingCall::Complete {
+            seq,
+            bytes: bytes.copy(),
+            floor,
+        },
+    });
+}
 
 /// One service of an administration queue: VIRTIO 1.3, 2.13 (administration virtqueues). Of this project.
 #[derive(Debug, Drop)]
@@ -52,34 +103,9 @@ impl Server {
         ensures value { result ≡ next_ask self.now.queue self.now.stage }
         ensures within { IfSome result IsWithinAsk }
     {
-        match &self.stage {
-            Stage::Popping => Some(Ask::Queue {
-                index: self.queue,
-                call: RingCall::Pop,
-            }),
-            Stage::Judging { command, bytes } => Some(Ask::Owner(OwnerCall::Judge {
-                bytes: bytes.copy(),
-                writable: command.writable,
-            })),
-            Stage::Acting {
-                command,
-                member,
-                access,
-            } => Some(Ask::Member {
-                id: *member,
-                floor: command.tag.floor,
-                call: MemberCall::Act(access.copy()),
-            }),
-            Stage::Completing { seq, bytes, floor } => Some(Ask::Queue {
-                index: self.queue,
-                call: RingCall::Complete {
-                    seq: *seq,
-                    bytes: bytes.copy(),
-                    floor: *floor,
-                },
-            }),
-            Stage::Ended => None,
-        }
+        let mut ask = None;
+        self.put_next(&mut ask);
+        ask
     }
 
     /// Puts the next ask in this place, or nothing once the service has ended. Judge is asked with at most 256 writable
@@ -88,7 +114,19 @@ impl Server {
         ensures value { ask.new ≡ next_ask self.now.queue self.now.stage }
         ensures within { IfSome ask.new IsWithinAsk }
     {
-        *ask = self.next();
+        match &self.stage {
+            Stage::Popping => put_pop(self.queue, ask),
+            Stage::Judging { command, bytes } => put_judge(bytes, command.writable, ask),
+            Stage::Acting {
+                command,
+                member,
+                access,
+            } => put_act(*member, command.tag.floor, access, ask),
+            Stage::Completing { seq, bytes, floor } => put_complete(
+                self.queue, *seq, bytes, *floor, ask,
+            ),
+            Stage::Ended => *ask = None,
+        }
     }
 
     /// Goes on after the answer to the ask of `next`.
@@ -106,12 +144,16 @@ impl Server {
         ensures queue { self.new.queue ≡ self.old.queue }
         ensures stage { self.new.stage ≡ after self.old.stage told.now }
     {
-        self.stage = match &self.stage {
-            Stage::Popping => after_pop(told),
-            Stage::Judging { command, bytes: _ } => after_judge(*command, told),
-            Stage::Acting { command, .. } => completing(*command, told),
-            _ => Stage::Ended,
-        };
+        match &self.stage {
+            Stage::Popping => put_after_pop(told, &mut self.stage),
+            Stage::Judging { command, bytes: _ } => put_after_judge(
+                *command,
+                told,
+                &mut self.stage,
+            ),
+            Stage::Acting { command, .. } => put_completing(*command, told, &mut self.stage),
+            _ => put_ended(&mut self.stage),
+        }
     }
 
     /// Nothing is left to ask.
