@@ -1,7 +1,7 @@
 //! The completion rule: what a command is completed with, VIRTIO 1.3, 2.12.1 (group administration commands).
 ghost use Rattle.std.specs.Prelude.{◌≡◌, ◌≤◌, ◌+◌, max, [], length};
 ghost use Rattle.byte_fields.specs.Places.{bytes_of};
-ghost use Rattle.admin_wire.specs.Numbers.{ok, unqualified, status_number, qualifier_number};
+ghost use Rattle.admin_wire.specs.Numbers.{ok, enomem, einval, unqualified, qualifier_number};
 ghost use Rattle.admin_wire.specs.Done.{done_of};
 ghost use Rattle.group_calls.specs.Limits.{writable_limit};
 ghost use Rattle.serve_machine.specs.Completion.{info, owner_done, access_done, completed_with, completed_under};
@@ -29,24 +29,58 @@ fn list_bytes(bits: u64) -> [u8; 8]
 }
 
 // A command was performed, with this result.
-fn performed(result_bytes: &[u8], writable: u32) -> Piece
+fn put_performed(result_bytes: &[u8], writable: u32, bytes: &mut Piece)
     requires { writable ≤ writable_limit }
-    ensures { result ≡ done_of ok unqualified result_bytes.now writable }
+    ensures { bytes.new ≡ done_of ok unqualified result_bytes.now writable }
 {
-    write_done(
+    *bytes = write_done(
         Status::Ok.number(),
         Qualifier::Unqualified.number(),
         result_bytes,
         writable,
-    )
+    );
 }
 
-// A command wasn't performed.
-fn refused(status: Status, qualifier: Qualifier, writable: u32) -> Piece
+// A command wasn't performed, and these are the numbers of its status and its qualifier.
+fn put_refused(status: u16, qualifier: u16, writable: u32, bytes: &mut Piece)
     requires { writable ≤ writable_limit }
-    ensures { result ≡ done_of (status_number status) (qualifier_number qualifier) [] writable }
+    ensures { bytes.new ≡ done_of status qualifier [] writable }
 {
-    write_done(status.number(), qualifier.number(), &[], writable)
+    *bytes = write_done(status, qualifier, &[], writable);
+}
+
+// A register access wasn't carried out.
+fn put_invalid(qualifier: Qualifier, writable: u32, bytes: &mut Piece)
+    requires { writable ≤ writable_limit }
+    ensures { bytes.new ≡ done_of einval (qualifier_number qualifier) [] writable }
+{
+    put_refused(Status::Einval.number(), qualifier.number(), writable, bytes);
+}
+
+// There was no memory for a command.
+fn put_no_memory(writable: u32, bytes: &mut Piece)
+    requires { writable ≤ writable_limit }
+    ensures { bytes.new ≡ done_of enomem unqualified [] writable }
+{
+    let qualifier = Qualifier::Unqualified.number();
+    put_refused(Status::Enomem.number(), qualifier, writable, bytes);
+}
+
+// As `owner_done`, in this place.
+fn put_owner_done(reply: &OwnerReply, writable: u32, bytes: &mut Piece)
+    requires { writable ≤ writable_limit }
+    ensures { bytes.new ≡ owner_done writable reply.now }
+{
+    match reply {
+        OwnerReply::List { bits } => put_performed(&list_bytes(*bits), writable, bytes),
+        OwnerReply::Used => put_performed(&[], writable, bytes),
+        OwnerReply::Refused {
+            status,
+            qualifier,
+            ..
+        } => put_refused(*status, *qualifier, writable, bytes),
+        _ => bytes.truncate(0),
+    }
 }
 
 /// The completion of a command that the owner decided by this reply. An access that goes to its member isn't
@@ -55,15 +89,23 @@ pub fn owner_done(reply: &OwnerReply, writable: u32) -> Piece
     requires { writable ≤ writable_limit }
     ensures { result ≡ owner_done writable reply.now }
 {
+    let mut bytes = Piece::new();
+    put_owner_done(reply, writable, &mut bytes);
+    bytes
+}
+
+// As `access_done`, in this place.
+fn put_access_done(reply: &MemberReply, writable: u32, bytes: &mut Piece)
+    requires { writable ≤ writable_limit }
+    ensures { bytes.new ≡ access_done writable reply.now }
+{
     match reply {
-        OwnerReply::List { bits } => performed(&list_bytes(*bits), writable),
-        OwnerReply::Used => performed(&[], writable),
-        OwnerReply::Refused {
-            status,
-            qualifier,
-            ..
-        } => write_done(*status, *qualifier, &[], writable),
-        _ => Piece::new(),
+        MemberReply::Data(data) => put_performed(data.as_slice(), writable, bytes),
+        MemberReply::Written => put_performed(&[], writable, bytes),
+        MemberReply::Info => put_performed(&info(), writable, bytes),
+        MemberReply::Refused(_) => put_invalid(Qualifier::InvalidField, writable, bytes),
+        MemberReply::Gone { .. } => put_invalid(Qualifier::InvalidMember, writable, bytes),
+        _ => bytes.truncate(0),
     }
 }
 
@@ -72,26 +114,22 @@ pub fn access_done(reply: &MemberReply, writable: u32) -> Piece
     requires { writable ≤ writable_limit }
     ensures { result ≡ access_done writable reply.now }
 {
-    match reply {
-        MemberReply::Data(data) => performed(data.as_slice(), writable),
-        MemberReply::Written => performed(&[], writable),
-        MemberReply::Info => performed(&info(), writable),
-        MemberReply::Refused(_) => refused(Status::Einval, Qualifier::InvalidField, writable),
-        MemberReply::Gone { .. } => refused(Status::Einval, Qualifier::InvalidMember, writable),
-        _ => Piece::new(),
-    }
+    let mut bytes = Piece::new();
+    put_access_done(reply, writable, &mut bytes);
+    bytes
 }
 
-/// The completion of a command that the owner or its member answered so, or for which there was no memory.
-pub(crate) fn completed_with(told: &Told, writable: u32) -> Piece
+/// The completion of a command that the owner or its member answered so, or for which there was no memory, in this
+/// place.
+pub(crate) fn put_completed_with(told: &Told, writable: u32, bytes: &mut Piece)
     requires { writable ≤ writable_limit }
-    ensures { result ≡ completed_with told.now writable }
+    ensures { bytes.new ≡ completed_with told.now writable }
 {
     match told {
-        Told::Owner(placed) => owner_done(&placed.reply, writable),
-        Told::Member(placed) => access_done(&placed.reply, writable),
-        Told::NoMemory => refused(Status::Enomem, Qualifier::Unqualified, writable),
-        Told::Queue(_) => Piece::new(),
+        Told::Owner(placed) => put_owner_done(&placed.reply, writable, bytes),
+        Told::Member(placed) => put_access_done(&placed.reply, writable, bytes),
+        Told::NoMemory => put_no_memory(writable, bytes),
+        Told::Queue(_) => bytes.truncate(0),
     }
 }
 

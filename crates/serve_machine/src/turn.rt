@@ -4,7 +4,7 @@ ghost use Rattle.group_calls.specs.Limits.{writable_limit};
 ghost use Rattle.serve_machine.specs.Service.{after_pop, completing, after_judge};
 ghost use Rattle.serve_machine.specs.Within.{IsLow};
 
-use crate::completion::{completed_under, completed_with};
+use crate::completion::{completed_under, put_completed_with};
 use crate::stage::{Fetched, Stage};
 use admin_wire::LegacyCmd;
 use board_text::Piece;
@@ -71,9 +71,12 @@ pub(crate) fn put_completing(command: Fetched, told: &Told, stage: &mut Stage)
 {
     *stage = Stage::Completing {
         seq: command.seq,
-        bytes: completed_with(told, command.writable),
+        bytes: Piece::new(),
         floor: completed_under(command.tag.floor, told),
     };
+    if let Stage::Completing { bytes, .. } = stage {
+        put_completed_with(told, command.writable, bytes);
+    }
 }
 
 /// After the owner was asked for its verdict: a register access goes to its member.
