@@ -6,7 +6,7 @@ ghost use Rattle.group_calls.specs.Asks.{AnswersAsk};
 ghost use Rattle.io_bar.specs.Route.{count_of, is_port_width, route_of};
 ghost use Rattle.vfio_driver.specs.Access.{next_ask, after, is_open, first_stage, started, learning, is_read, FitsCommand};
 
-use crate::access::{After, Answer, Known, Stage, Started};
+use crate::access::{Answer, Known, Stage, Started};
 use crate::access_after::{after_notify, after_post, after_take};
 use admin_wire::{LegacyCmd, writable_for, write_legacy};
 use board_text::Piece;
@@ -34,17 +34,66 @@ fn reads(command: &LegacyCmd) -> bool
     )
 }
 
-// The command is to be posted for the guest.
-fn command_stage(guest: u32, queue: u32, command: &LegacyCmd) -> Stage
-    requires { FitsCommand command.now }
-    ensures { result ≡ Stage.Posting queue (legacy_bytes guest command.now) (fixed_size + result_length command.now) (is_read command.now) }
+// The member is to be notified.
+fn ring(queue: u16, stage: &mut Stage)
+    ensures { stage.new ≡ Stage.Ringing queue }
 {
-    Stage::Posting {
+    *stage = Stage::Ringing { queue };
+}
+
+// The command is to be posted for the guest.
+fn post(guest: u32, queue: u32, command: &LegacyCmd, stage: &mut Stage)
+    requires { FitsCommand command.now }
+    ensures { stage.new ≡ Stage.Posting queue (legacy_bytes guest command.now) (fixed_size + result_length command.now) (is_read command.now) }
+{
+    *stage = Stage::Posting {
         queue,
         bytes: write_legacy(u64::from(guest), command),
         writable: writable_for(command),
         reads: reads(command),
-    }
+    };
+}
+
+// Nothing is asked.
+fn put_none(ask: &mut Option<Ask>)
+    ensures { ask.new ≡ None }
+{
+    *ask = None;
+}
+
+// The member is asked, at a place of at least this floor, to be notified.
+fn put_notify(id: u32, floor: u64, queue: u16, ask: &mut Option<Ask>)
+    ensures { ask.new ≡ Some (Ask.Member id floor (MemberCall.Notify queue)) }
+{
+    *ask = Some(Ask::Member {
+        id,
+        floor,
+        call: MemberCall::Notify { queue },
+    });
+}
+
+// The queue is asked to post the command.
+fn put_post(queue: u32, bytes: &Piece, writable: u32, tag: Tag, ask: &mut Option<Ask>)
+    ensures { ask.new ≡ Some (Ask.Queue queue (RingCall.Post bytes.now writable tag)) }
+{
+    *ask = Some(Ask::Queue {
+        index: queue,
+        call: RingCall::Post {
+            bytes: bytes.copy(),
+            writable,
+            tag,
+        },
+    });
+}
+
+// The queue is asked for what became of the command.
+fn put_take(queue: u32, seq: u64, ask: &mut Option<Ask>)
+    ensures { ask.new ≡ Some (Ask.Queue queue (RingCall.Take seq)) }
+{
+    *ask = Some(Ask::Queue {
+        index: queue,
+        call: RingCall::Take { seq },
+    });
 }
 
 impl Driver {
@@ -81,20 +130,16 @@ impl Driver {
         ensures started { result ≡ started self.old.known (route_of self.old.bar self.old.msix self.old.io access) }
     {
         if self.known.gone {
-            self.stage = Stage::Nothing;
             return Started::Local;
         }
-        match self.bar.route(self.msix, self.io, &access) {
-            Route::Local => {
-                self.stage = Stage::Nothing;
-                Started::Local
-            }
+        match &self.bar.route(self.msix, self.io, &access) {
+            Route::Local => Started::Local,
             Route::Doorbell { queue } => {
-                self.stage = Stage::Ringing { queue };
+                ring(*queue, &mut self.stage);
                 Started::Asks
             }
             Route::Command(command) => {
-                self.stage = command_stage(self.guest, queue, &command);
+                post(self.guest, queue, command, &mut self.stage);
                 Started::Asks
             }
         }
@@ -112,37 +157,11 @@ impl Driver {
         requires { is_open self.now.stage ≡ true }
         ensures { Some result ≡ next_ask self.now.guest self.now.known self.now.stage }
     {
-        match &self.stage {
-            Stage::Nothing => unreachable!(),
-            Stage::Ringing { queue } => Ask::Member {
-                id: self.guest,
-                floor: self.known.floor,
-                call: MemberCall::Notify { queue: *queue },
-            },
-            Stage::Posting {
-                queue,
-                bytes,
-                writable,
-                reads: _,
-            } => Ask::Queue {
-                index: *queue,
-                call: RingCall::Post {
-                    bytes: bytes.copy(),
-                    writable: *writable,
-                    tag: Tag {
-                        guest: self.guest,
-                        floor: self.known.floor,
-                    },
-                },
-            },
-            Stage::Taking {
-                queue,
-                seq,
-                reads: _,
-            } => Ask::Queue {
-                index: *queue,
-                call: RingCall::Take { seq: *seq },
-            },
+        let mut ask = None;
+        self.put_next(&mut ask);
+        match ask {
+            Some(ask) => ask,
+            None => unreachable!(),
         }
     }
 
@@ -150,10 +169,26 @@ impl Driver {
     pub fn put_next(&self, ask: &mut Option<Ask>)
         ensures { ask.new ≡ next_ask self.now.guest self.now.known self.now.stage }
     {
-        if self.is_open() {
-            *ask = Some(self.next());
-        } else {
-            *ask = None;
+        match &self.stage {
+            Stage::Nothing => put_none(ask),
+            Stage::Ringing { queue } => put_notify(self.guest, self.known.floor, *queue, ask),
+            Stage::Posting {
+                queue,
+                bytes,
+                writable,
+                reads: _,
+            } => {
+                let tag = Tag {
+                    guest: self.guest,
+                    floor: self.known.floor,
+                };
+                put_post(*queue, bytes, *writable, tag, ask);
+            }
+            Stage::Taking {
+                queue,
+                seq,
+                reads: _,
+            } => put_take(*queue, *seq, ask),
         }
     }
 
@@ -182,26 +217,9 @@ impl Driver {
         ensures known { self.new.known ≡ (after self.old.known self.old.stage told.now).known }
         ensures answer { result ≡ (after self.old.known self.old.stage told.now).answer }
     {
-        let after = match &self.stage {
-            Stage::Ringing { queue: _ } => after_notify(self.known, told),
-            Stage::Posting {
-                queue,
-                bytes: _,
-                writable: _,
-                reads,
-            } => after_post(self.known, *queue, *reads, told),
-            Stage::Taking { queue, seq, reads } => {
-                after_take(self.known, *queue, *seq, *reads, told)
-            }
-            Stage::Nothing => After {
-                stage: Stage::Nothing,
-                known: self.known,
-                answer: None,
-            },
-        };
-        self.stage = after.stage;
-        self.known = after.known;
-        after.answer
+        let mut answer = None;
+        self.hear_into(told, &mut answer);
+        answer
     }
 
     /// Goes on as `hear` does, and puts the answer, if the access has one, in this place.
@@ -216,7 +234,30 @@ impl Driver {
         ensures known { self.new.known ≡ (after self.old.known self.old.stage told.now).known }
         ensures answer { answer.new ≡ (after self.old.known self.old.stage told.now).answer }
     {
-        *answer = self.hear(told);
+        match &self.stage {
+            Stage::Nothing => {}
+            Stage::Ringing { queue: _ } => {
+                after_notify(told, &mut self.known, &mut self.stage, answer);
+            }
+            Stage::Posting {
+                queue,
+                bytes: _,
+                writable: _,
+                reads,
+            } => after_post(
+                *queue,
+                *reads,
+                told,
+                &mut self.known,
+                &mut self.stage,
+                answer,
+            ),
+            Stage::Taking {
+                queue: _,
+                seq: _,
+                reads,
+            } => after_take(*reads, told, &mut self.known, &mut self.stage, answer),
+        }
     }
 
     /// I/O is enabled or disabled for later accesses.
