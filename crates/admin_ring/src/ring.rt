@@ -162,23 +162,25 @@ impl AdminRing {
         Ok(answered(at, RingReply::Seq(seq)))
     }
 
-    fn pop(&mut self, who: u32) -> Placed<RingReply>
+    // This never fails, as `complete` and `take` never do; their results are made where `apply` wants them.
+    fn pop(&mut self, who: u32) -> Result<Placed<RingReply>, NoMemory>
         requires { who < actor_limit }
-        ensures answered { IsAnswered (queue_answer self.old.made) is_quiet_reply self.old.history self.new.history who Pop result }
-        ensures quiet { is_quiet_reply result.reply ≡ true → self.new ≡ self.old }
+        ensures answered { IfOk result (IsAnswered (queue_answer self.old.made) is_quiet_reply self.old.history self.new.history who Pop) }
+        ensures quiet { IfOk result (λ placed. is_quiet_reply placed.reply ≡ true → self.new ≡ self.old) }
         ensures made { self.new.made ≡ self.old.made }
+        ensures spares { IsOk result }
         ensures most { length self.new.history ≤ history_limit }
     {
         let at = self.log.length();
         let None = &self.floors else {
-            return answered(at, RingReply::Empty);
+            return Ok(answered(at, RingReply::Empty));
         };
         if self.host.serving.is_some() {
             let seq = self.completed;
-            return answered(at, RingReply::InService { seq });
+            return Ok(answered(at, RingReply::InService { seq }));
         }
         let Some(chain) = self.host.fetch(position(self.fetched)) else {
-            return answered(at, RingReply::Empty);
+            return Ok(answered(at, RingReply::Empty));
         };
         let (key, bytes) = self.host.command(&chain);
         let Some(note) = self.table.get(key) else {
@@ -196,25 +198,32 @@ impl AdminRing {
             reply: reply.copy(),
         });
         self.fetched += 1;
-        answered(at, reply)
+        Ok(answered(at, reply))
     }
 
-    fn complete(&mut self, who: u32, seq: u64, bytes: &Piece, floor: u64) -> Placed<RingReply>
+    fn complete(
+        &mut self,
+        who: u32,
+        seq: u64,
+        bytes: &Piece,
+        floor: u64,
+    ) -> Result<Placed<RingReply>, NoMemory>
         requires { who < actor_limit }
-        ensures answered { IsAnswered (queue_answer self.old.made) is_quiet_reply self.old.history self.new.history who (Complete seq bytes.now floor) result }
-        ensures quiet { is_quiet_reply result.reply ≡ true → self.new ≡ self.old }
+        ensures answered { IfOk result (IsAnswered (queue_answer self.old.made) is_quiet_reply self.old.history self.new.history who (Complete seq bytes.now floor)) }
+        ensures quiet { IfOk result (λ placed. is_quiet_reply placed.reply ≡ true → self.new ≡ self.old) }
         ensures made { self.new.made ≡ self.old.made }
+        ensures spares { IsOk result }
         ensures most { length self.new.history ≤ history_limit }
     {
         let at = self.log.length();
         let None = &self.floors else {
-            return answered(at, RingReply::Stale);
+            return Ok(answered(at, RingReply::Stale));
         };
         let Some(chain) = self.host.serving else {
-            return answered(at, RingReply::Stale);
+            return Ok(answered(at, RingReply::Stale));
         };
         if seq != self.completed {
-            return answered(at, RingReply::Stale);
+            return Ok(answered(at, RingReply::Stale));
         }
         let (key, count) = self.host.complete(position(seq), chain, bytes.as_slice());
         self.table.answer(key, count, floor);
@@ -228,26 +237,27 @@ impl AdminRing {
             reply: RingReply::Completed,
         });
         self.completed = seq + 1;
-        answered(at, RingReply::Completed)
+        Ok(answered(at, RingReply::Completed))
     }
 
-    fn take(&mut self, who: u32, seq: u64) -> Placed<RingReply>
+    fn take(&mut self, who: u32, seq: u64) -> Result<Placed<RingReply>, NoMemory>
         requires { who < actor_limit }
-        ensures answered { IsAnswered (queue_answer self.old.made) is_quiet_reply self.old.history self.new.history who (Take seq) result }
-        ensures quiet { is_quiet_reply result.reply ≡ true → self.new ≡ self.old }
+        ensures answered { IfOk result (IsAnswered (queue_answer self.old.made) is_quiet_reply self.old.history self.new.history who (Take seq)) }
+        ensures quiet { IfOk result (λ placed. is_quiet_reply placed.reply ≡ true → self.new ≡ self.old) }
         ensures made { self.new.made ≡ self.old.made }
+        ensures spares { IsOk result }
         ensures most { length self.new.history ≤ history_limit }
     {
         let at = self.log.length();
         let Some(key) = self.table.find(seq) else {
-            return answered(at, RingReply::Stale);
+            return Ok(answered(at, RingReply::Stale));
         };
         let Some(note) = self.table.get(key) else {
             unreachable!();
         };
         let reply = taken(&self.host, key, note, &self.floors);
         if reply.is_quiet() {
-            return answered(at, reply);
+            return Ok(answered(at, reply));
         }
         self.table.remove(key);
         self.log.put(Entry {
@@ -255,7 +265,7 @@ impl AdminRing {
             call: RingCall::Take { seq },
             reply: reply.copy(),
         });
-        answered(at, reply)
+        Ok(answered(at, reply))
     }
 
     fn reset(&mut self, who: u32, floors: &Floors) -> Result<Placed<RingReply>, NoMemory>
@@ -310,11 +320,9 @@ impl Serial for AdminRing {
                 writable,
                 tag,
             } => self.post(who, bytes, *writable, *tag),
-            RingCall::Pop => Ok(self.pop(who)),
-            RingCall::Complete { seq, bytes, floor } => {
-                Ok(self.complete(who, *seq, bytes, *floor))
-            }
-            RingCall::Take { seq } => Ok(self.take(who, *seq)),
+            RingCall::Pop => self.pop(who),
+            RingCall::Complete { seq, bytes, floor } => self.complete(who, *seq, bytes, *floor),
+            RingCall::Take { seq } => self.take(who, *seq),
             RingCall::Reset { floors } => self.reset(who, floors),
         }
     }
