@@ -32,7 +32,8 @@ use Rattle.journal.specs.Answers.{driver_answer, answer_words, words_by}
 use Rattle.actor_core.specs.declared.outside.Outside.{Outside}
 use Rattle.actor_core.specs.declared.performer.Ending.TheVariants.{Answered}
 use Rattle.actor_core.specs.Tasks.{is_refused, is_loose}
-use Rattle.actor_core.specs.Performers.{ending_by}
+use Rattle.actor_core.specs.Performers.{ending_by, told_where}
+use Rattle.actor_core.specs.Refused.{ends_refused}
 use Rattle.actor_core.specs.Shown.{host_words, driver_words, ending_text, text_where}
 use Rattle.actor_core.specs.Answered.{is_guests}
 use Rattle.actor_core.proofs.Drivers.{either, by_answer, goes_on, tried_again}
@@ -165,3 +166,9 @@ module _ (s : Whole) (guest number : ℕ) (kind : Kind) (io : Bool) (asked : Wha
   line_shown (empties queue service) next mine held same = absurd (cc)
   line_shown (hosts going) next mine held same = absurd (cc)
   line_shown (steps member queue left) next mine held same = absurd (cc)
+
+-- ---- a line that is shown by its own answer is no refused access
+
+pub told_unrefused : (ended : Bool) → ends_refused (told_where ended) ≡ true → ⊥
+told_unrefused true is = cc
+told_unrefused false is = cc

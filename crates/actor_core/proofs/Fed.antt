@@ -1,5 +1,6 @@
 -- An actor behind a line that begins, and behind one answer more.
-use Rattle.std.proofs.Common.{◌≡◌, ℕ, ◌+◌, false, List, ◌∷◌, ◌++◌, map, length, None, Some, refl, sym, ap, ◌∙◌, subst, arith}
+use Rattle.std.proofs.Common.{◌≡◌, ℕ, ◌+◌, false, List, ◌∷◌, ◌++◌, map, length, Option, None, Some, refl, sym, ap, ◌∙◌, subst, arith}
+use Rattle.std.specs.Prelude.{IsSomeAnd}
 use Rattle.group_calls.specs.declared.ask.Ask.{Ask}
 use Rattle.group_calls.specs.declared.ask.Told.{Told}
 use Rattle.group_calls.specs.Asks.{Exchange}
@@ -69,3 +70,8 @@ stands_whole_fed s who performed past old new ask told stands asked performer li
   answers = λ guest. answers guest ∙ fed_text s who past old.performer ask told performed.asked old.outside (answers_text old.kept.answers.items.items) performed.line old.number stands.performer asked old.performer.held
       (stands.guests guest) stands.number (stands.outside guest) guest.0 (stands.answers guest);
 }
+
+-- the ask that was given out
+pub given_at : (given : Option Ask) (P : Ask → Type 0) → IsSomeAnd given P → (ask : Ask) × (given ≡ Some ask)
+given_at None P some = absurd some
+given_at (Some ask) P some = (ask, refl)
