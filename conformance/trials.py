@@ -90,6 +90,7 @@ def cases(program):
         yield f"trial_tells_of_{name}", comparison_fault(change)
     few = ("--first", "40", "--more", "5", "admin", QUERY)
     yield "trial_passes_without_memory", passing_fault(program, "hostile", "memory", *few)
+    yield "trial_passes_step_without_memory", passing_fault(program, "hostile", "memory", "step", TWO_GUESTS)
     yield "trial_passes_run_without_memory", passing_fault(program, "hostile", "memory", "run", TWO_GUESTS)
     yield "trial_passes_with_failing_streams", passing_fault(program, "hostile", "streams", *few)
     yield "trial_passes_random_texts", passing_fault(program, "fuzz", "--count", "60")
