@@ -10,6 +10,10 @@ short_limit = 16
 abbrev pub piece_limit : ℕ
 piece_limit = 256
 
+-- how many of them lie in a value itself
+abbrev pub place_limit : ℕ
+place_limit = 39
+
 -- the most floors that a list has: one for each member of a group
 abbrev pub floor_limit : ℕ
 floor_limit = guest_limit

@@ -1,18 +1,19 @@
 //! What holds of the limits and of the types, with nothing to run.
 ghost use Rattle.std.specs.Prelude.{◌≡◌};
-ghost use Rattle.board_text.specs.Limits.{short_limit, piece_limit, floor_limit};
+ghost use Rattle.board_text.specs.Limits.{short_limit, piece_limit, place_limit, floor_limit};
 
 use crate::byte_lists::{Bytes, SHORT_LIMIT};
 use crate::decimal::Malformed;
 use crate::floors::{FLOOR_LIMIT, Floors};
 use crate::hex_text::HexFault;
 use crate::lines::LineSpan;
-use crate::pieces::{PIECE_LIMIT, Piece};
+use crate::pieces::{PIECE_LIMIT, PLACE_LIMIT, Piece};
 
 /// The limits that callers read are those of the definitions.
 pub fn limits_are_the_definitions()
     ensures short { SHORT_LIMIT ≡ short_limit }
     ensures piece { PIECE_LIMIT ≡ piece_limit }
+    ensures place { PLACE_LIMIT ≡ place_limit }
     ensures floors { FLOOR_LIMIT ≡ floor_limit }
 {}
 
