@@ -97,12 +97,16 @@ info_size = 64
 abbrev pub wire_limit : ℕ
 wire_limit = 256
 
--- and so the data of a write, and a result
-abbrev pub data_limit : ℕ
-data_limit = 224
-
+-- and so a result
 abbrev pub result_limit : ℕ
 result_limit = 248
+
+-- the data of a write whose command lies in a piece itself, and a result whose completion does: what a piece's 39 bytes leave behind the 32 before data, and behind the 8 before a result. Of this project
+abbrev pub place_data_limit : ℕ
+place_data_limit = 7
+
+abbrev pub place_payload_limit : ℕ
+place_payload_limit = 31
 
 -- how many bytes a driver makes writable for each of the two list commands
 abbrev pub query_writable : ℕ

@@ -1,6 +1,6 @@
 //! Commands as a driver writes them.
 ghost use Rattle.std.specs.Prelude.{◌≡◌, ◌+◌, ◌≤◌, ℕ, length};
-ghost use Rattle.admin_wire.specs.Numbers.{fixed_size, data_limit, result_limit, wire_limit};
+ghost use Rattle.admin_wire.specs.Numbers.{fixed_size, place_data_limit, result_limit, wire_limit};
 ghost use Rattle.admin_wire.specs.Command.{command_of};
 ghost use Rattle.admin_wire.specs.Writing.{fixed_part, opcode_for, bytes_written, result_length, query_bytes, use_bytes, legacy_bytes, query_command, use_command, legacy_command};
 
@@ -21,7 +21,7 @@ fn write_fixed_part(opcode: u16, member: u64) -> Piece
     LittleEndian::write_u16(&mut fixed, opcode);
     LittleEndian::write_u16(&mut fixed[2..], SR_IOV);
     LittleEndian::write_u64(&mut fixed[16..], member);
-    Piece::from_slice(&fixed)
+    Piece::short(&fixed)
 }
 
 fn opcode_of(command: &LegacyCmd) -> u16
@@ -54,10 +54,10 @@ pub fn write_use(bits: u64) -> Piece
     bytes
 }
 
-/// An access to the registers of a member. A write has at most 224 bytes of data. With as many writable
-/// bytes as `writable_for` says it is read again as the same access.
+/// An access to the registers of a member. A write has at most 7 bytes of data, so that the command lies in the piece
+/// itself. With as many writable bytes as `writable_for` says it is read again as the same access.
 pub fn write_legacy(member: u64, command: &LegacyCmd) -> Piece
-    requires { length (bytes_written command.now) ≤ data_limit }
+    requires { length (bytes_written command.now) ≤ place_data_limit }
     ensures bytes { result ≡ legacy_bytes member command.now }
     ensures read_again { command_of result (fixed_size + result_length command.now) ≡ legacy_command member command.now }
 {

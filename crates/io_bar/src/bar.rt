@@ -168,10 +168,10 @@ impl Bar {
         let begin = usize::from(offset);
         let end = begin + length as usize;
         if end > CONFIGURATION_SIZE {
-            return Piece::from_slice(&[0xff; 4][..length as usize]);
+            return Piece::short(&[0xff; 4][..length as usize]);
         }
         let all = configuration(&self.kind, io);
-        Piece::from_slice(&all.as_slice()[begin..end])
+        Piece::short(&all.as_slice()[begin..end])
     }
 }
 

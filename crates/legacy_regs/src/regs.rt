@@ -152,7 +152,7 @@ impl Regs {
         }
         let bytes = FieldBytes::new(self.structure(space), offset, length);
         self.note_read(space, offset, length);
-        Ok(Piece::from_slice(bytes.as_slice()))
+        Ok(Piece::short(bytes.as_slice()))
     }
 
     /// Writes these bytes from `offset` on, counted in bytes from the structure's start, and says what that does beyond

@@ -31,7 +31,7 @@ fn reads(regs: &mut Regs, space: Space, offset: u8, length: u32, want: u64) -> b
 
 fn write(regs: &mut Regs, space: Space, offset: u8, length: usize, number: u64) -> Option<Effect> {
     let bytes = number.to_le_bytes();
-    let bytes = Piece::from_slice(bytes.get(..length)?);
+    let bytes = Piece::short(bytes.get(..length)?);
     regs.write(space, offset, &bytes).ok()
 }
 
