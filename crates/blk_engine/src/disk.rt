@@ -37,7 +37,8 @@ impl Disk {
         requires { sectors ≤ sector_limit }
         ensures { IfOk result (λ disk. disk ≡ replicate (sector_size * sectors) 0) }
     {
-        let bytes = Vec::from_elem(alloc, 0, (SECTOR_SIZE * sectors) as usize)?;
+        let mut bytes = Vec::new(alloc);
+        bytes.resize((SECTOR_SIZE * sectors) as usize, 0)?;
         Ok(Disk { bytes })
     }
 

@@ -38,7 +38,8 @@ impl GuestMem {
         ensures { IfOk result (λ mem. mem ≡ replicate (page_size * pages) 0) }
     {
         let size = PAGE_SIZE as usize * pages as usize;
-        let bytes = Vec::from_elem(alloc, 0, size)?;
+        let mut bytes = Vec::new(alloc);
+        bytes.resize(size, 0)?;
         Ok(GuestMem { bytes })
     }
 
