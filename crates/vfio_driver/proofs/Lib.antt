@@ -6,3 +6,4 @@ mod HeardLaws
 mod BringRunGrammar
 mod BroughtLaws
 mod Opcodes
+mod Fitting

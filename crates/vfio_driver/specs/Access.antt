@@ -1,6 +1,6 @@
 -- An access of a guest as a machine: what is asked, and what it comes to after the answer. Of this project; the commands are those of VIRTIO 1.3, 2.12.1 (group administration commands, Legacy Interfaces), and a doorbell is that of 2.9 (driver notifications).
 use Rattle.std.specs.Prelude.{ℕ, ◌+◌, ◌≤◌, ◌==◌, ◌||◌, max, Bool, true, false, List, length, Option, Some, None, if◌then◌else◌}
-use Rattle.admin_wire.specs.Numbers.{ok, enomem, invalid_field, fixed_size, data_limit, result_limit}
+use Rattle.admin_wire.specs.Numbers.{ok, enomem, invalid_field, fixed_size, place_data_limit, result_limit}
 use Rattle.admin_wire.specs.Done.{parts_of}
 use Rattle.admin_wire.specs.Writing.{legacy_bytes, bytes_written, result_length}
 use Rattle.admin_wire.specs.declared.done.DoneParts.{DoneParts}
@@ -53,9 +53,9 @@ started_by _ = Asks
 abbrev pub started : Known → Route → Started
 started known route = if known.gone then IsLocal else started_by route
 
--- a write's data fit a command, and a read's a completion
+-- a write's data fit a command in a piece itself, and a read's a completion
 abbrev pub FitsCommand : LegacyCmd → Type 0
-FitsCommand command = (length (bytes_written command) ≤ data_limit) × (result_length command ≤ result_limit)
+FitsCommand command = (length (bytes_written command) ≤ place_data_limit) × (result_length command ≤ result_limit)
 
 -- what a doorbell is answered: at a place of a history
 abbrev pub IsRingTold : Told → Type 0
