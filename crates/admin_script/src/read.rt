@@ -25,14 +25,14 @@ fn breaks_setup(earlier: &AdminText, shape: &AdminShape) -> bool
 }
 
 // Puts the bytes of a command into a piece that has none yet.
-fn fill_command(word: &Word, piece: &mut Piece) -> Result<(), Fault>
+fn fill_command(alloc: Global, word: &Word, piece: &mut Piece) -> Result<(), Fault>
     requires { piece.old ≡ [] }
     ensures { Steps result piece.new (command_bytes word.now) }
 {
     if word.is(b"-") {
         return Ok(());
     }
-    fill_piece(word, 0, COMMAND_LIMIT, piece)
+    fill_piece(alloc, word, 0, COMMAND_LIMIT, piece)
 }
 
 fn add_line(text: &mut AdminText, line: AdminLine) -> Result<(), Fault>
@@ -45,12 +45,17 @@ fn add_line(text: &mut AdminText, line: AdminLine) -> Result<(), Fault>
     }
 }
 
-fn add_command(text: &mut AdminText, writable: &Word, bytes: &Word) -> Result<(), Fault>
+fn add_command(
+    alloc: Global,
+    text: &mut AdminText,
+    writable: &Word,
+    bytes: &Word,
+) -> Result<(), Fault>
     ensures { Steps result text.new (with_admin_row text.old (shape_of.Cmd writable.now bytes.now)) }
 {
     let writable = number(writable, 0, ROOM_LIMIT)? as u32;
     let mut piece = Piece::new();
-    fill_command(bytes, &mut piece)?;
+    fill_command(alloc, bytes, &mut piece)?;
     add_line(
         text,
         AdminLine::Cmd {
@@ -60,7 +65,7 @@ fn add_command(text: &mut AdminText, writable: &Word, bytes: &Word) -> Result<()
     )
 }
 
-fn add_row(text: &mut AdminText, shape: &AdminShape) -> Result<(), Fault>
+fn add_row(alloc: Global, text: &mut AdminText, shape: &AdminShape) -> Result<(), Fault>
     ensures { Steps result text.new (with_admin_row text.old shape.now) }
 {
     match shape {
@@ -69,11 +74,11 @@ fn add_row(text: &mut AdminText, shape: &AdminShape) -> Result<(), Fault>
             add_line(text, AdminLine::Vfs { count })
         }
         AdminShape::Reset => add_line(text, AdminLine::Reset),
-        AdminShape::Cmd { writable, bytes } => add_command(text, writable, bytes),
+        AdminShape::Cmd { writable, bytes } => add_command(alloc, text, writable, bytes),
     }
 }
 
-fn add_form(text: &mut AdminText, shape: Option<AdminShape>) -> Result<(), Fault>
+fn add_form(alloc: Global, text: &mut AdminText, shape: Option<AdminShape>) -> Result<(), Fault>
     ensures { Steps result text.new (with_admin_form text.old shape.entry) }
 {
     match shape {
@@ -82,19 +87,19 @@ fn add_form(text: &mut AdminText, shape: Option<AdminShape>) -> Result<(), Fault
             if breaks_setup(text, &shape) {
                 Err(Fault::Bad(Cause::Setup))
             } else {
-                add_row(text, &shape)
+                add_row(alloc, text, &shape)
             }
         }
     }
 }
 
-fn add_text(text: &mut AdminText, line: &[u8]) -> Result<(), Fault>
+fn add_text(alloc: Global, text: &mut AdminText, line: &[u8]) -> Result<(), Fault>
     ensures { Steps result text.new (with_admin_text text.old line.now) }
 {
     if is_ignored(line) {
         return Ok(());
     }
-    add_form(text, read_shape(line))
+    add_form(alloc, text, read_shape(line))
 }
 
 /// The lines of a text for `admin`, or its first fault: the number of the first line with a fault, and the
@@ -110,7 +115,7 @@ pub fn read_admin(alloc: Global, text: &[u8]) -> Result<AdminText, ScriptFault>
     let mut from = 0;
     let mut number = 1;
     'lines: while let Some(line) = next_line(text, from) {
-        if let Err(fault) = add_text(&mut admin, &text[line.start..line.end]) {
+        if let Err(fault) = add_text(alloc, &mut admin, &text[line.start..line.end]) {
             return Err(at_line(number, fault));
         }
         from = line.next;

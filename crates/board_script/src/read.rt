@@ -79,7 +79,7 @@ fn add_shape(alloc: Global, draft: &mut Draft, place: Place, shape: Shape) -> Re
             size,
             workers,
         } => add_board(draft, &queues, &size, &workers),
-        Shape::Guest { number, member } => add_guest(draft, &number, &member),
+        Shape::Guest { number, member } => add_guest(alloc, draft, &number, &member),
         Shape::Acts(act) => add_act(alloc, draft, place, &act),
         Shape::Go(words) => add_go(draft, words),
     }

@@ -13,6 +13,7 @@ use crate::limits::{GUEST_LIMIT, MAC_LENGTH, PAGE_LIMIT, QUEUE_LIMIT, SECTOR_LIM
 use crate::script::{Board, Setup};
 use legacy_regs::Kind;
 use script_words::{Cause, Fault, Member, Word, number, piece, queue_size};
+use std::alloc::Global;
 
 /// Adds the line `board Q S K`.
 pub fn add_board(draft: &mut Draft, queues: &Word, size: &Word, workers: &Word) -> Result<(), Fault>
@@ -101,14 +102,20 @@ fn mac_of(bytes: &[u8]) -> [u8; 6]
     mac
 }
 
-fn add_net(draft: &mut Draft, guest: &Word, pages: &Word, mac: &Word) -> Result<(), Fault>
+fn add_net(
+    alloc: Global,
+    draft: &mut Draft,
+    guest: &Word,
+    pages: &Word,
+    mac: &Word,
+) -> Result<(), Fault>
     ensures value { Steps result draft.new (net_says draft.old guest.now pages.now mac.now) }
     ensures lines { OnOk result (draft.new.lines ≡ draft.old.lines) }
     ensures turns { OnOk result (draft.new.turns ≡ draft.old.turns) }
 {
     next_guest(draft, guest)?;
     let pages = number(pages, 1, PAGE_LIMIT)? as u32;
-    let bytes = piece(mac, MAC_LENGTH, MAC_LENGTH)?;
+    let bytes = piece(alloc, mac, MAC_LENGTH, MAC_LENGTH)?;
     keep_guest(
         draft,
         Setup {
@@ -121,7 +128,12 @@ fn add_net(draft: &mut Draft, guest: &Word, pages: &Word, mac: &Word) -> Result<
 }
 
 /// Adds a `guest` line.
-pub fn add_guest(draft: &mut Draft, guest: &Word, member: &Member) -> Result<(), Fault>
+pub fn add_guest(
+    alloc: Global,
+    draft: &mut Draft,
+    guest: &Word,
+    member: &Member,
+) -> Result<(), Fault>
     ensures value { Steps result draft.new (member_says draft.old guest.now member.now) }
     ensures lines { OnOk result (draft.new.lines ≡ draft.old.lines) }
     ensures turns { OnOk result (draft.new.turns ≡ draft.old.turns) }
@@ -132,6 +144,6 @@ pub fn add_guest(draft: &mut Draft, guest: &Word, member: &Member) -> Result<(),
             sectors,
             read_only,
         } => add_block(draft, guest, pages, sectors, *read_only),
-        Member::Net { pages, mac } => add_net(draft, guest, pages, mac),
+        Member::Net { pages, mac } => add_net(alloc, draft, guest, pages, mac),
     }
 }

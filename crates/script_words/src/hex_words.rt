@@ -1,9 +1,9 @@
 //! What a word stands for where it must be hex.
-ghost use Rattle.std.specs.Prelude.{◌≡◌, ◌≢◌, ◌≤◌, IfOk, IfErr, OnOk, OnErr, length, is_some, true, None, IsSome};
+ghost use Rattle.std.specs.Prelude.{◌≡◌, ◌≢◌, ◌≤◌, ◌<◌, IfOk, IfErr, OnOk, OnErr, length, is_some, true, None, IsSome};
 ghost use Rattle.std.specs.List.{list_all};
 ghost use Rattle.hex.specs.Hex.{is_hex_digit, IsBytes};
 ghost use Rattle.board_text.specs.Hex.{hex_bytes};
-ghost use Rattle.board_text.specs.Limits.{piece_limit};
+ghost use Rattle.board_text.specs.Limits.{piece_limit, place_limit};
 ghost use Rattle.script_words.specs.declared.cause.Fault.TheVariants.{NoMemory};
 ghost use Rattle.script_words.specs.Values.{Gives, GivesAlways, Steps, is_width as is_width_of, any_bytes, bytes_in, bytes_of_width as bytes_of_width_of};
 
@@ -85,12 +85,18 @@ fn fault_of_number(word: &Word) -> Fault
     }
 }
 
-/// Puts the bytes that a word spells into a piece: a number of bytes within bounds, of at most 256. It takes no
-/// memory. After an error the piece is as it was.
-pub fn fill_piece(word: &Word, low: usize, high: usize, piece: &mut Piece) -> Result<(), Fault>
+/// Puts the bytes that a word spells into a piece: a number of bytes within bounds, of at most 256. Fewer than 39 take
+/// no memory. After an error the piece is as it was.
+pub fn fill_piece(
+    alloc: Global,
+    word: &Word,
+    low: usize,
+    high: usize,
+    piece: &mut Piece,
+) -> Result<(), Fault>
     requires { high ≤ piece_limit }
     ensures value { Steps result piece.new (bytes_in low high word.now) }
-    ensures memory { IfErr result (λ fault. fault ≢ NoMemory) }
+    ensures memory { high < place_limit → IfErr result (λ fault. fault ≢ NoMemory) }
     ensures refused { OnErr result (piece.new ≡ piece.old) }
     ensures each { OnOk result (IsBytes piece.new) }
     ensures low { OnOk result (low ≤ length piece.new) }
@@ -100,22 +106,22 @@ pub fn fill_piece(word: &Word, low: usize, high: usize, piece: &mut Piece) -> Re
     if length < low || high < length {
         return Err(fault_of_number(word));
     }
-    if piece.read_hex(word.bytes()) {
-        Ok(())
-    } else {
-        Err(Fault::Bad(Cause::Hex))
+    match piece.read_hex(alloc, word.bytes()) {
+        Ok(true) => Ok(()),
+        Ok(false) => Err(Fault::Bad(Cause::Hex)),
+        Err(_) => Err(Fault::NoMemory),
     }
 }
 
-/// Bytes of a number within bounds, of at most 256. It takes no memory.
-pub fn piece(word: &Word, low: usize, high: usize) -> Result<Piece, Fault>
-    requires { high ≤ piece_limit }
+/// Bytes of a number within bounds, fewer than 39. It takes no memory.
+pub fn piece(alloc: Global, word: &Word, low: usize, high: usize) -> Result<Piece, Fault>
+    requires { high < place_limit }
     ensures value { GivesAlways result (bytes_in low high word.now) }
     ensures each { IfOk result IsBytes }
     ensures low { IfOk result (λ b. low ≤ length b) }
     ensures high { IfOk result (λ b. length b ≤ high) }
 {
     let mut piece = Piece::new();
-    fill_piece(word, low, high, &mut piece)?;
+    fill_piece(alloc, word, low, high, &mut piece)?;
     Ok(piece)
 }

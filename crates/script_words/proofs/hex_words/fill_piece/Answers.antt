@@ -1,4 +1,5 @@
-use Rattle.std.proofs.Common.{◌≡◌, ◌≤◌, ◌/◌, length, ap, inl, inr, arith}
+use Rattle.std.proofs.Common.{◌≡◌, ◌/◌, length, true≢false, sym, ap, inl, inr, arith}
+use Rattle.board_text.specs.Hex.{FillsPiece, hex_piece}
 use Rattle.script_words.proofs.HexWords.{refused_number, filled, not_filled}
 use Rattle.script_words.proofs.hex_words.fill_piece.Goals as goal
 use Rattle.script_words.proofs.hex_words.fill_piece.Goals.{then-length-low-via-then-length-low, then-length-low-via-else-length-low+then-high-length}
@@ -10,27 +11,38 @@ returns-then-length-low-clause-value c =
     (elim c.then-length-low.branch [ then-length-low-via-then-length-low w ↦ inl (omega (arith, same)) | then-length-low-via-else-length-low+then-high-length w ↦ inr (omega (arith, same)) ])
     c.fault_of_number.ensures.hex c.fault_of_number.ensures.range
 
-pub returns-then-read_hex-clause-value : goal.returns-then-read_hex-clause-value
-returns-then-read_hex-clause-value c =
+pub returns-in-Ok-true-clause-value : goal.returns-in-Ok-true-clause-value
+returns-in-Ok-true-clause-value c =
     let same : length c.bytes.result.now ≡ length c.args.word.now = ap length c.bytes.ensures in
-    (filled c.args.word.now c.read_hex.new.self c.args.low c.args.high c.requires (omega (arith, same)) (omega (arith, same)) (rw c.bytes-2.ensures at c.if-read_hex.ensures.value)).value
+    let told : FillsPiece c.in-Ok-true.field-0 c.read_hex.new.self (hex_piece c.bytes-2.result.now) = c.in-Ok-true.ensures.value in
+    (filled c.args.word.now c.read_hex.new.self c.args.low c.args.high c.requires (omega (arith, same)) (omega (arith, same)) (rw c.bytes-2.ensures at (rw c.in-Ok-true.field-0-test at told))).value
 
-pub returns-then-read_hex-clause-each : goal.returns-then-read_hex-clause-each
-returns-then-read_hex-clause-each c =
+pub returns-in-Ok-true-clause-each : goal.returns-in-Ok-true-clause-each
+returns-in-Ok-true-clause-each c =
     let same : length c.bytes.result.now ≡ length c.args.word.now = ap length c.bytes.ensures in
-    (filled c.args.word.now c.read_hex.new.self c.args.low c.args.high c.requires (omega (arith, same)) (omega (arith, same)) (rw c.bytes-2.ensures at c.if-read_hex.ensures.value)).each
+    let told : FillsPiece c.in-Ok-true.field-0 c.read_hex.new.self (hex_piece c.bytes-2.result.now) = c.in-Ok-true.ensures.value in
+    (filled c.args.word.now c.read_hex.new.self c.args.low c.args.high c.requires (omega (arith, same)) (omega (arith, same)) (rw c.bytes-2.ensures at (rw c.in-Ok-true.field-0-test at told))).each
 
-pub returns-then-read_hex-clause-low : goal.returns-then-read_hex-clause-low
-returns-then-read_hex-clause-low c =
+pub returns-in-Ok-true-clause-low : goal.returns-in-Ok-true-clause-low
+returns-in-Ok-true-clause-low c =
     let same : length c.bytes.result.now ≡ length c.args.word.now = ap length c.bytes.ensures in
-    (filled c.args.word.now c.read_hex.new.self c.args.low c.args.high c.requires (omega (arith, same)) (omega (arith, same)) (rw c.bytes-2.ensures at c.if-read_hex.ensures.value)).low
+    let told : FillsPiece c.in-Ok-true.field-0 c.read_hex.new.self (hex_piece c.bytes-2.result.now) = c.in-Ok-true.ensures.value in
+    (filled c.args.word.now c.read_hex.new.self c.args.low c.args.high c.requires (omega (arith, same)) (omega (arith, same)) (rw c.bytes-2.ensures at (rw c.in-Ok-true.field-0-test at told))).low
 
-pub returns-then-read_hex-clause-high : goal.returns-then-read_hex-clause-high
-returns-then-read_hex-clause-high c =
+pub returns-in-Ok-true-clause-high : goal.returns-in-Ok-true-clause-high
+returns-in-Ok-true-clause-high c =
     let same : length c.bytes.result.now ≡ length c.args.word.now = ap length c.bytes.ensures in
-    (filled c.args.word.now c.read_hex.new.self c.args.low c.args.high c.requires (omega (arith, same)) (omega (arith, same)) (rw c.bytes-2.ensures at c.if-read_hex.ensures.value)).high
+    let told : FillsPiece c.in-Ok-true.field-0 c.read_hex.new.self (hex_piece c.bytes-2.result.now) = c.in-Ok-true.ensures.value in
+    (filled c.args.word.now c.read_hex.new.self c.args.low c.args.high c.requires (omega (arith, same)) (omega (arith, same)) (rw c.bytes-2.ensures at (rw c.in-Ok-true.field-0-test at told))).high
 
-pub returns-else-read_hex-clause-value : goal.returns-else-read_hex-clause-value
-returns-else-read_hex-clause-value c =
+pub returns-in-Ok-false-clause-value : goal.returns-in-Ok-false-clause-value
+returns-in-Ok-false-clause-value c =
     let same : length c.bytes.result.now ≡ length c.args.word.now = ap length c.bytes.ensures in
-    not_filled c.args.word.now c.args.low c.args.high c.requires (omega (arith, same)) (rw c.bytes-2.ensures at c.if-read_hex.ensures.value)
+    let told : FillsPiece c.in-Ok-false.field-0 c.read_hex.new.self (hex_piece c.bytes-2.result.now) = c.in-Ok-false.ensures.value in
+    not_filled c.args.word.now c.args.low c.args.high c.requires (omega (arith, same)) (rw c.bytes-2.ensures at (rw c.in-Ok-false.field-0-test at told))
+
+pub returns-in-Err-clause-memory : goal.returns-in-Err-clause-memory
+returns-in-Err-clause-memory c few is =
+    let same : length c.bytes.result.now ≡ length c.args.word.now = ap length c.bytes.ensures in
+    let again : length c.bytes-2.result.now ≡ length c.args.word.now = ap length c.bytes-2.ensures in
+    true≢false (sym (c.in-Err.ensures.memory (omega (arith, same, again))))
