@@ -73,6 +73,21 @@ keeps_post size n f d floors at now held held_now log log_later who bytes writab
     subst (λ (es : List RingEntry). Keeps size (n + 1) f d floors now held_now (record { entries = es; room = log_later.room })) (sym e)
     (kept_post size n f d floors at now held held_now log who bytes writable tag key log_later.room k unclosed few short free up vacant more fits most)
 
+-- the same slots under the same keys
+pub keeps_alike : (size n f d : ℕ) (floors : Option (List ℕ)) (at now : ℕ → Option Slot) (held held_now : ℕ) (log : Kept RingEntry) → ((key : ℕ) → now key ≡ at key) → held_now ≡ held → Keeps size n f d floors at held log → Keeps size n f d floors now held_now log
+keeps_alike size n f d floors at now held held_now log alike same k = record {
+  counts = k.counts;
+  holds = record {
+    sound = λ key x there. k.holds.sound key x (sym (alike key) ∙ there);
+    complete = λ s x found. let there = k.holds.complete s x found in (there.0, alike there.0 ∙ there.1);
+    distinct = λ key other x y there others. k.holds.distinct key other x y (sym (alike key) ∙ there) (sym (alike other) ∙ others);
+  };
+  count = same ∙ k.count;
+  legal = k.legal;
+  most = let a = k.most in omega (arith, a, same);
+  reserved = let a = k.reserved in omega (arith, a, same);
+}
+
 -- Pop
 
 pub record IsFetching (n f d : ℕ) (floors : Option (List ℕ)) (h : List RingEntry) : Type 0 where

@@ -22,13 +22,14 @@ use Rattle.admin_ring.specs.declared.table.Note.{Note}
 use Rattle.admin_ring.specs.declared.host.Host.{Host}
 use Rattle.admin_ring.specs.declared.host.Chain.{Chain}
 use Rattle.admin_ring.specs.Slots.{Slot, command_at, answer_at, slot_at, slot_in, slot_if_noted}
-use Rattle.admin_ring.specs.Finding.{Finds, completed, answered}
+use Rattle.admin_ring.specs.Finding.{Finds, new_note, fetched_note, completed, answered}
 use Rattle.admin_ring.specs.Host.{IsHost, HasRing, HasPosted, HasFetched, IsOfSlot, SamePlaces, OthersStay, slot_count, pair_of, with_completed}
 use Rattle.admin_ring.specs.Kept.{Changes, owed, slot_of, taken_answer, fetched_answer}
-use Rattle.admin_ring.specs.Bytes.{IsNote, IsCommand, IsOpen, HasSlots, IsQueue}
+use Rattle.admin_ring.specs.Bytes.{IsNote, IsCommand, IsOpen, HasSlots, HasRooms, IsQueue}
 use Rattle.admin_ring.proofs.Replies.{pop_serving, pop_next, found_none, found_some}
-use Rattle.admin_ring.proofs.Keeping.{past_none, keeps_post, keeps_pop, keeps_complete, keeps_take, take_kept, taken_done}
+use Rattle.admin_ring.proofs.Keeping.{past_none, keeps_alike, keeps_post, keeps_pop, keeps_complete, keeps_take, take_kept, taken_done}
 use Rattle.admin_ring.proofs.Slots.{bytes_same, changes}
+use Rattle.admin_ring.proofs.Rooms.{room_fits, rooms_after}
 use Rattle.admin_ring.proofs.Open.{open_post, open_pop, open_complete, open_take, none_held, one_held, next_command, none_waits}
 
 take_few : (n : ℕ) (xs : List ℕ) → length (take n xs) ≤ n
@@ -88,14 +89,14 @@ module _ (size n f d : ℕ) (floors : Option (List ℕ)) (host : Host) (table : 
   key_below key below = let a = q.slots.keys in let half : slot_count host ≡ size / 2 = ap (λ (k : ℕ). k / 2) q.slots.size_is in omega (arith, below, a, half)
 
   module _ (later : Host) (now : Slab Note) (log_later : Kept RingEntry) (who : ℕ) (bytes : List ℕ) (writable : ℕ) (tag : Tag) (key : ℕ) (unclosed : floors ≡ None) (few : slab_len table < size / 2)
-      (up : Updates table now key (Some record { seq = n; len = length bytes; writable = writable; tag = tag; answer = None })) (vacant : get table key ≡ None) (more : slab_len now ≡ slab_len table + 1)
+      (up : Updates table now key (Some (new_note n (length bytes) writable tag))) (vacant : get table key ≡ None) (more : slab_len now ≡ slab_len table + 1)
       (same : now.capacity ≡ table.capacity) (below : key < table.capacity) (short : length bytes ≤ 256) (room : writable ≤ 256)
       (posted : (r : Ring) → HasRing host r → HasPosted host later r key (length bytes) writable) (there : bytes_at (command_at host.slots key) (length bytes) later.mem ≡ bytes) (others : OthersStay host later key) (places : SamePlaces host later) where
     abbrev note : Note
-    note = record { seq = n; len = length bytes; writable = writable; tag = tag; answer = None }
+    note = new_note n (length bytes) writable tag
 
     posted_note : IsNote (slot_count host) key note
-    posted_note = record { slot = key_below key below; command = short; room = room; answer = tt }
+    posted_note = record { slot = key_below key below; command = short; room = room; answer = tt; spare = room_fits writable room }
 
     slot_posted : Changes (slot_at host.mem host.slots table) (slot_at later.mem host.slots now) key (Some record { seq = n; bytes = bytes; writable = writable; tag = tag; completion = None })
     slot_posted =
@@ -115,6 +116,7 @@ module _ (size n f d : ℕ) (floors : Option (List ℕ)) (host : Host) (table : 
       memory = same_host host later q.memory places;
       slots = slots_after size host later table now q.slots places same
           (notes_after (slot_count host) key table now (Some note) up (λ x is. let one : note ≡ x = cc in subst (IsNote (slot_count host) key) one posted_note) q.slots.notes);
+      rooms = rooms_after f f key table now (Some note) up (λ x is late. let one : note ≡ x = cc in subst (λ (y : Note). y.len ≤ y.command_room) one (room_fits (length bytes) short)) (omega arith) q.rooms;
       open_ring = λ unclosed_now. open_post n f d host table (q.open_ring unclosed) later now key note up vacant refl refl places.slots (posted (q.open_ring unclosed).ring (q.open_ring unclosed).has);
     }
 
@@ -153,40 +155,72 @@ module _ (size n f d : ℕ) (floors : Option (List ℕ)) (host : Host) (table : 
         let l = next_note.command in
         omega (arith, a, b, c, e, i, l)
 
-    pub next_few : s.readable.len ≤ 256
-    next_few = let b : s.readable.len ≡ next.note.len = ap (λ (x : Span). x.len) next.readable in let l = next_note.command in omega (arith, b, l)
-
     -- its note
     pub next_noted : (key : ℕ) → key ≡ (s.readable.addr - later.slots) / 512 → get table key ≡ Some next.note
     next_noted key is = ap (get table) (is ∙ next_key) ∙ next.noted
 
-    pub gives : (key : ℕ) (note : Note) (bytes : List ℕ) → key ≡ (s.readable.addr - later.slots) / 512 → Some note ≡ get table key → bytes ≡ bytes_at s.readable.addr s.readable.len later.mem
-        → Fetched note.seq bytes s.writable.len note.tag ≡ pop_answer log.entries
-    gives key note bytes is got bytes_are =
+    -- there is room for its bytes
+    pub next_fits : (key room : ℕ) → key ≡ (s.readable.addr - later.slots) / 512 → ((x : Note) → get table key ≡ Some x → room ≡ x.command_room) → s.readable.len ≤ room
+    next_fits key room is room_is =
+        let a = room_is next.note (next_noted key is) in
+        let b : s.readable.len ≡ next.note.len = ap (λ (x : Span). x.len) next.readable in
+        let e = next.seq in
+        let c = q.rooms next.key next.note next.noted (omega (arith, e)) in
+        omega (arith, a, b, c)
+
+    pub gives : (key : ℕ) (tag : Tag) (bytes : List ℕ) → key ≡ (s.readable.addr - later.slots) / 512 → ((x : Note) → get table key ≡ Some x → tag ≡ x.tag) → bytes ≡ bytes_at s.readable.addr s.readable.len later.mem
+        → Fetched f bytes s.writable.len tag ≡ pop_answer log.entries
+    gives key tag bytes is tag_is bytes_are =
         let there : slot_at host.mem host.slots table next.key ≡ Some (slot_in host.mem host.slots next.key next.note) = ap (slot_if_noted host.mem host.slots next.key) next.noted in
         let of : slot_of log.entries f ≡ Some (slot_in host.mem host.slots next.key next.note) = found_some (slot_at host.mem host.slots table) (slot_of log.entries) q.past.holds f next.key (slot_in host.mem host.slots next.key next.note) there next.seq in
-        let both : Some note ≡ Some next.note = got ∙ next_noted key is in
-        let one : note ≡ next.note = cc in
         let room : s.writable.len ≡ next.note.writable = ap (λ (x : Span). x.len) next.writable in
         let b : bytes ≡ bytes_at (command_at host.slots next.key) next.note.len host.mem
         = bytes_are ∙ ap (λ (h : Host). bytes_at s.readable.addr s.readable.len h.mem) fetched.3 ∙ ap (λ (x : Span). bytes_at x.addr x.len host.mem) next.readable in
         let e = (none_held n f d host table o idle).1 in
-        ap (λ (x : Note). Fetched x.seq bytes s.writable.len x.tag) one
+        ap (λ (k : ℕ). Fetched k bytes s.writable.len tag) (sym next.seq)
+        ∙ ap (λ (t : Tag). Fetched next.note.seq bytes s.writable.len t) (tag_is next.note (next_noted key is))
         ∙ ap (λ (bs : List ℕ). Fetched next.note.seq bs s.writable.len next.note.tag) b
         ∙ ap (λ (w : ℕ). Fetched next.note.seq (bytes_at (command_at host.slots next.key) next.note.len host.mem) w next.note.tag) room
         ∙ ap fetched_answer (sym of) ∙ sym (pop_next n f d floors log.entries q.past.counts unclosed (omega (arith, e)))
 
-    pub queue_pop : (log_later : Kept RingEntry) (who : ℕ) (reply : RingReply) → who < 26 → reply ≡ pop_answer log.entries → is_quiet_reply reply ≡ false → log_later.entries ≡ record { who = who; call = Pop; reply = reply } ∷ log.entries → log.room ≤ log_later.room
-        → IsQueue size n (f + 1) d floors later table log_later
-    queue_pop log_later who reply some is loud e wide =
-        let has : HasRing (record host { serving = Some s }) (with_fetched o.ring (pair_of s) fetched.0) = subst (λ (h : Host). HasRing h (with_fetched o.ring (pair_of s) fetched.0)) fetched.3 fetched.2 in
-        subst (λ (h : Host). IsQueue size n (f + 1) d floors h table log_later) (sym fetched.3)
-        (record {
-          past = keeps_pop size n f d floors (slot_at host.mem host.slots table) (slab_len table) log log_later who reply q.past some is loud e wide;
-          memory = record { size = q.memory.size; driven = q.memory.driven; behind = q.memory.behind; inside = q.memory.inside; small = q.memory.small };
-          slots = record { size_is = q.slots.size_is; keys = q.slots.keys; notes = q.slots.notes };
-          open_ring = λ u. open_pop n f d host table o s fetched.0 idle fetched.1 has;
-        })
+    module _ (now : Slab Note) (key : ℕ) (is : key ≡ (s.readable.addr - later.slots) / 512) (up_back : (x : Note) → get table key ≡ Some x → Updates table now key (Some (fetched_note x))) (alike : slab_len now ≡ slab_len table) (same : now.capacity ≡ table.capacity) where
+      up_next : Updates table now next.key (Some (fetched_note next.note))
+      up_next = subst (λ (k : ℕ). Updates table now k (Some (fetched_note next.note))) (is ∙ next_key) (up_back next.note (next_noted key is))
+
+      -- the slots hold what they held
+      slots_alike : (k : ℕ) → slot_at host.mem host.slots now k ≡ slot_at host.mem host.slots table k
+      slots_alike k = elim (cases_eq k next.key) [
+        | inl e ↦
+            ap (slot_at host.mem host.slots now) e ∙ ap (slot_if_noted host.mem host.slots next.key) up_next.changed
+            ∙ sym (ap (slot_at host.mem host.slots table) e ∙ ap (slot_if_noted host.mem host.slots next.key) next.noted)
+        | inr off ↦ ap (slot_if_noted host.mem host.slots k) (up_next.others k off)
+      ]
+
+      next_later : IsNote (slot_count host) next.key (fetched_note next.note)
+      next_later = record { slot = next_note.slot; command = next_note.command; room = next_note.room; answer = next_note.answer; spare = next_note.spare }
+
+      rooms_later : HasRooms (f + 1) now
+      rooms_later = rooms_after f (f + 1) next.key table now (Some (fetched_note next.note)) up_next
+          (λ x at late. let one : fetched_note next.note ≡ x = cc in let e : next.note.seq ≡ x.seq = ap (λ (y : Note). y.seq) one in let seq = next.seq in absurd (omega (arith, e, seq, late))) (omega arith) q.rooms
+
+      pub queue_pop : (log_later : Kept RingEntry) (who : ℕ) (reply : RingReply) → who < 26 → reply ≡ pop_answer log.entries → is_quiet_reply reply ≡ false → log_later.entries ≡ record { who = who; call = Pop; reply = reply } ∷ log.entries → log.room ≤ log_later.room
+          → IsQueue size n (f + 1) d floors later now log_later
+      unfolding next
+      queue_pop log_later who reply some gives_it loud e wide =
+          let has : HasRing (record host { serving = Some s }) (with_fetched o.ring (pair_of s) fetched.0) = subst (λ (h : Host). HasRing h (with_fetched o.ring (pair_of s) fetched.0)) fetched.3 fetched.2 in
+          subst (λ (h : Host). IsQueue size n (f + 1) d floors h now log_later) (sym fetched.3)
+          (record {
+            past = keeps_alike size n (f + 1) d floors (slot_at host.mem host.slots table) (slot_at host.mem host.slots now) (slab_len table) (slab_len now) log_later slots_alike alike
+                (keeps_pop size n f d floors (slot_at host.mem host.slots table) (slab_len table) log log_later who reply q.past some gives_it loud e wide);
+            memory = record { size = q.memory.size; driven = q.memory.driven; behind = q.memory.behind; inside = q.memory.inside; small = q.memory.small };
+            slots = record {
+              size_is = q.slots.size_is;
+              keys = same ∙ q.slots.keys;
+              notes = notes_after (slot_count host) next.key table now (Some (fetched_note next.note)) up_next (λ x at. let one : fetched_note next.note ≡ x = cc in subst (IsNote (slot_count host) next.key) one next_later) q.slots.notes;
+            };
+            rooms = rooms_later;
+            open_ring = λ u. open_pop n f d host table o s fetched.0 idle fetched.1 has now up_next;
+          })
 
   -- ---- Complete
 
@@ -252,7 +286,7 @@ module _ (size n f d : ℕ) (floors : Option (List ℕ)) (host : Host) (table : 
           }
 
       completed_note : IsNote (slot_count host) served.key (answered served.note count floor)
-      completed_note = record { slot = served_note.slot; command = served_note.command; room = served_note.room; answer = fits }
+      completed_note = record { slot = served_note.slot; command = served_note.command; room = served_note.room; answer = fits; spare = served_note.spare }
 
       pub queue_complete : who < 26 → seq ≡ d → log_later.entries ≡ record { who = who; call = Complete seq bytes floor; reply = Completed } ∷ log.entries → log.room ≤ log_later.room → IsQueue size n f (seq + 1) floors later now log_later
       queue_complete some is e wide = record {
@@ -262,6 +296,8 @@ module _ (size n f d : ℕ) (floors : Option (List ℕ)) (host : Host) (table : 
         memory = same_host host later q.memory places;
         slots = slots_after size host later table now q.slots places same
             (notes_after (slot_count host) served.key table now (Some (answered served.note count floor)) up (λ x is. let one : answered served.note count floor ≡ x = cc in subst (IsNote (slot_count host) served.key) one completed_note) q.slots.notes);
+        rooms = rooms_after f f served.key table now (Some (answered served.note count floor)) up
+            (λ x is. let one : answered served.note count floor ≡ x = cc in subst (λ (y : Note). f ≤ y.seq → y.len ≤ y.command_room) one (q.rooms served.key served.note served.noted)) (omega arith) q.rooms;
         open_ring = λ u. subst (λ (k : ℕ). IsOpen n f k later now) (ap (λ (k : ℕ). k + 1) (sym is))
             (open_complete n f d host table (q.open_ring unclosed) s later now served.key served.note (answered served.note count floor) serving ring places.slots up served.noted served.seq);
       }
@@ -313,6 +349,7 @@ module _ (size n f d : ℕ) (floors : Option (List ℕ)) (host : Host) (table : 
         keys = same ∙ q.slots.keys;
         notes = notes_after (slot_count host) key table now None up (λ x is. let no : None ≡ Some x = is in cc) q.slots.notes;
       };
+      rooms = rooms_after f f key table now None up (λ x is. let no : None ≡ Some x = is in cc) (omega arith) q.rooms;
       open_ring = λ unclosed. open_take n f d host table (q.open_ring unclosed) now key note up there
           (let a = taken_done n f d floors log.entries s (slot_in host.mem host.slots key note) q.past.counts (old_closed size log.entries q.past.legal) found (ap is_quiet_reply (sym is) ∙ loud) unclosed in omega (arith, a, seq)) q.past.counts.completed_first;
     }

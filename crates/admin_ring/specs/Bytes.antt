@@ -14,12 +14,13 @@ abbrev pub AnswerFits : ℕ → Option (ℕ × ℕ) → Type 0
 AnswerFits writable None = Unit {0}
 AnswerFits writable (Some c) = c.0 ≤ writable
 
--- a note is of one of so many slots, and its lengths fit the slot's halves
+-- a note is of one of so many slots, its lengths fit the slot's halves, and it has room for the answer
 pub record IsNote (count key : ℕ) (x : Note) : Type 0 where
   pub slot : key < count
   pub command : x.len ≤ 256
   pub room : x.writable ≤ 256
   pub answer : AnswerFits x.writable x.answer
+  pub spare : x.writable ≤ x.answer_room
 
 -- The chain in the ring is the command of this number: it is noted under a key and isn't completed, the first buffer of the
 -- chain is the command in the slot of the key, and the second is the room for its answer.
@@ -56,10 +57,15 @@ pub record HasSlots (size : ℕ) (host : Host) (table : Slab Note) : Type 0 wher
   pub keys : table.capacity ≡ size / 2
   pub notes : (key : ℕ) (x : Note) → get table key ≡ Some x → IsNote (slot_count host) key x
 
+-- each command from this number on has room for its bytes: none of them was fetched
+abbrev pub HasRooms : ℕ → Slab Note → Type 0
+HasRooms f table = (key : ℕ) (x : Note) → get table key ≡ Some x → f ≤ x.seq → x.len ≤ x.command_room
+
 -- The bytes of the ring and the slots belong to the history: what the slots hold is what is outstanding, and while the queue
 -- is open the ring holds what isn't completed.
 pub record IsQueue (size n f d : ℕ) (floors : Option (List ℕ)) (host : Host) (table : Slab Note) (log : Kept RingEntry) : Type 0 where
   pub past : Keeps size n f d floors (slot_at host.mem host.slots table) (slab_len table) log
   pub memory : IsHost host
   pub slots : HasSlots size host table
+  pub rooms : HasRooms f table
   pub open_ring : floors ≡ None → IsOpen n f d host table

@@ -10,7 +10,6 @@ ghost use Rattle.ring_driver.specs.Between.{Ring, new_ring};
 ghost use Rattle.admin_ring.specs.Slots.{command_at, answer_at};
 ghost use Rattle.admin_ring.specs.Host.{IsHost, IsNewHost, HasRing, HasPosted, HasFetched, IsOfSlot, SamePlaces, OthersStay, slot_count, with_completed};
 
-use board_text::Piece;
 use guest_mem::{GuestMem, PAGE_LIMIT, PAGE_SIZE};
 use ring_device::{PairFound, next_pair, put_used};
 use ring_driver::{RingDriver, Span, TakenUsed};
@@ -134,17 +133,16 @@ impl Host {
         }
     }
 
-    /// The slot and the bytes of the command in a chain.
-    pub fn command(&self, chain: &Chain) -> (usize, Piece)
+    /// The slot and the bytes of the command in a chain, lent in place.
+    pub fn command(&self, chain: &Chain) -> (usize, &[u8])
         requires behind { self.now.slots ≤ chain.now.readable.addr }
         requires inside { chain.now.readable.addr + chain.now.readable.len ≤ length self.now.mem }
-        requires few { chain.now.readable.len ≤ 256 }
         ensures slot { result.0 ≡ (chain.now.readable.addr - self.now.slots) / 512 }
-        ensures bytes { result.1 ≡ bytes_at chain.now.readable.addr chain.now.readable.len self.now.mem }
+        ensures bytes { result.1.now ≡ bytes_at chain.now.readable.addr chain.now.readable.len self.now.mem }
+        ensures count { length result.1.now ≡ chain.now.readable.len }
     {
         let Span { addr, len } = chain.readable;
-        let bytes = Piece::from_slice(self.mem.part(addr, u64::from(len)));
-        (self.slot_at(addr), bytes)
+        (self.slot_at(addr), self.mem.part(addr, u64::from(len)))
     }
 
     /// The device answers the chain that it serves with as many bytes of the reply as there is room for, and uses it; the
@@ -173,14 +171,15 @@ impl Host {
         (self.slot_at(command), length)
     }
 
-    /// So many bytes of a slot's answer.
-    pub fn answer(&self, key: usize, count: u32) -> Piece
+    /// So many bytes of a slot's answer, lent in place.
+    pub fn answer(&self, key: usize, count: u32) -> &[u8]
         requires host { IsHost self.now }
         requires key { key < slot_count self.now }
         requires count { count ≤ 256 }
-        ensures { result ≡ bytes_at (answer_at self.now.slots key) count self.now.mem }
+        ensures bytes { result.now ≡ bytes_at (answer_at self.now.slots key) count self.now.mem }
+        ensures count { length result.now ≡ count }
     {
         let addr = self.slots + SLOT_SIZE * key as u64 + HALF_SLOT;
-        Piece::from_slice(self.mem.part(addr, u64::from(count)))
+        self.mem.part(addr, u64::from(count))
     }
 }

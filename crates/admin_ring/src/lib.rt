@@ -13,6 +13,7 @@
 mod host;
 pub mod laws;
 mod ring;
+mod room;
 mod table;
 #[cfg(test)]
 mod tests;

@@ -2,6 +2,7 @@
 ghost use Rattle.std.specs.Prelude.{◌≡◌, ◌≤◌, ◌<◌, ◌^◌, ◌+◌, ◌*◌, ◌/◌, ◌%◌, [], ◌∷◌, true, false, ℕ, List, length, IsTrue, IsOk, IfOk, OnErr, OnOk, Option, Some};
 ghost use Rattle.group_calls.specs.declared.queue.RingCall.{RingCall};
 ghost use Rattle.group_calls.specs.declared.queue.RingCall.TheVariants.{Post, Pop, Complete, Take, Reset};
+ghost use Rattle.group_calls.specs.declared.queue.RingReply.TheVariants.{NotYet};
 ghost use Rattle.history.specs.Legal.{IsAnswered};
 ghost use Rattle.history.specs.Limits.{history_limit, actor_limit};
 ghost use Rattle.group_calls.specs.Limits.{writable_limit};
@@ -29,6 +30,7 @@ const INDEX_MODULUS: u64 = 65_536;
 #[derive(Drop)]
 pub struct AdminRing {
     size: u16,
+    alloc: Global,
     posted: u64,
     fetched: u64,
     completed: u64,
@@ -77,15 +79,23 @@ fn owed(posted: u64, fetched: u64, completed: u64, table: &Table) -> u64
     (posted - fetched) + (posted - completed) + table.len() as u64
 }
 
+/// Whether the command of a note may still be completed.
+fn is_due(note: &Note, floors: &Option<Floors>) -> bool
+    ensures due { result ≡ true → (mem : List ℕ) (slots key : ℕ) → taken_answer floors.now (Some (slot_in mem slots key note.now)) ≡ NotYet }
+    ensures settled { result ≡ false → (mem : List ℕ) (slots key : ℕ) → is_quiet_reply (taken_answer floors.now (Some (slot_in mem slots key note.now))) ≡ false }
+{
+    note.answer.is_none() && floors.is_none()
+}
+
 /// The answer to a Take of the command in a slot.
-fn taken(host: &Host, key: usize, note: &Note, floors: &Option<Floors>) -> RingReply
+fn taken(host: &Host, key: usize, note: Note, floors: &Option<Floors>) -> RingReply
     requires host { IsHost host.now }
-    requires note { IsNote (slot_count host.now) key note.now }
-    ensures { result ≡ taken_answer floors.now (Some (slot_in host.now.mem host.now.slots key note.now)) }
+    requires note { IsNote (slot_count host.now) key note }
+    ensures { result ≡ taken_answer floors.now (Some (slot_in host.now.mem host.now.slots key note)) }
 {
     match (note.answer, floors) {
         (Some((count, floor)), _) => RingReply::Ready {
-            bytes: host.answer(key, count),
+            bytes: note.answer_room.fill(host.answer(key, count)),
             floor,
         },
         (None, Some(floors)) => RingReply::Lost {
@@ -105,6 +115,7 @@ impl AdminRing {
     {
         Ok(AdminRing {
             size,
+            alloc,
             posted: 0,
             fetched: 0,
             completed: 0,
@@ -143,10 +154,10 @@ impl AdminRing {
         if more > HISTORY_LIMIT - at {
             return Err(NoMemory);
         }
-        self.log.reserve(more)?;
         let seq = self.posted;
         let command = bytes.as_slice();
-        let note = Note::new(seq, command.len() as u32, writable, tag);
+        let note = Note::new(self.alloc, seq, command.len() as u32, writable, tag)?;
+        self.log.reserve(more)?;
         let key = self.table.insert(note)?;
         self.host.post(key, command, writable);
         self.log.put(Entry {
@@ -183,14 +194,12 @@ impl AdminRing {
             return Ok(answered(at, RingReply::Empty));
         };
         let (key, bytes) = self.host.command(&chain);
-        let Some(note) = self.table.get(key) else {
-            unreachable!();
-        };
+        let (tag, room) = self.table.fetch(key);
         let reply = RingReply::Fetched {
-            seq: note.seq,
-            bytes,
+            seq: self.fetched,
+            bytes: room.fill(bytes),
             writable: chain.writable.len,
-            tag: note.tag,
+            tag,
         };
         self.log.put(Entry {
             who,
@@ -255,11 +264,11 @@ impl AdminRing {
         let Some(note) = self.table.get(key) else {
             unreachable!();
         };
-        let reply = taken(&self.host, key, note, &self.floors);
-        if reply.is_quiet() {
-            return Ok(answered(at, reply));
+        if is_due(note, &self.floors) {
+            return Ok(answered(at, RingReply::NotYet));
         }
-        self.table.remove(key);
+        let note = self.table.remove(key);
+        let reply = taken(&self.host, key, note, &self.floors);
         self.log.put(Entry {
             who,
             call: RingCall::Take { seq },

@@ -34,11 +34,11 @@ impl Both {
     }
 }
 
-fn piece(byte: u8, len: u64) -> Piece
+fn piece(alloc: Global, byte: u8, len: u64) -> Result<Piece, NoMemory>
     requires { len ≤ 256 }
 {
     let bytes = [byte; 256];
-    Piece::from_slice(&bytes[..len as usize])
+    Piece::from_slice(alloc, &bytes[..len as usize])
 }
 
 fn floors() -> Floors {
@@ -49,10 +49,10 @@ fn floors() -> Floors {
 }
 
 // A call that a random number picks: each kind, of commands that are outstanding and of others.
-fn picked_call(random: u64, plain: &PlainQueue) -> RingCall {
-    let bytes = piece((random >> 56) as u8, (random >> 8) % 257);
+fn picked_call(alloc: Global, random: u64, plain: &PlainQueue) -> Result<RingCall, NoMemory> {
+    let bytes = piece(alloc, (random >> 56) as u8, (random >> 8) % 257)?;
     let floor = random % 1000;
-    match (random >> 40) % 16 {
+    let call = match (random >> 40) % 16 {
         0..5 => RingCall::Post {
             bytes,
             writable: ((random >> 24) % 257) as u32,
@@ -75,7 +75,8 @@ fn picked_call(random: u64, plain: &PlainQueue) -> RingCall {
         _ => RingCall::Take {
             seq: plain.posted.wrapping_sub((random >> 24) % 140),
         },
-    }
+    };
+    Ok(call)
 }
 
 // The first of 100,000 calls that both answer differently. Near the end the owner is reset.
@@ -94,7 +95,7 @@ fn first_difference(alloc: Global, size: u16) -> Result<Option<u32>, NoMemory>
         let call = if turn == 99_000 {
             RingCall::Reset { floors: floors() }
         } else {
-            picked_call(random, &both.plain)
+            picked_call(alloc, random, &both.plain)?
         };
         if !both.agree(&call)? {
             return Ok(Some(turn));
@@ -104,16 +105,16 @@ fn first_difference(alloc: Global, size: u16) -> Result<Option<u32>, NoMemory>
 }
 
 // Whether both agree on the four calls of a command.
-fn agree_on_command(both: &mut Both, seq: u64) -> Result<bool, NoMemory> {
+fn agree_on_command(alloc: Global, both: &mut Both, seq: u64) -> Result<bool, NoMemory> {
     let posted = both.agree(&RingCall::Post {
-        bytes: piece(7, seq % 257),
+        bytes: piece(alloc, 7, seq % 257)?,
         writable: 3,
         tag: Tag { guest: 1, floor: 5 },
     })?;
     let fetched = both.agree(&RingCall::Pop)?;
     let completed = both.agree(&RingCall::Complete {
         seq,
-        bytes: piece(9, seq % 5),
+        bytes: piece(alloc, 9, seq % 5)?,
         floor: 6,
     })?;
     let taken = both.agree(&RingCall::Take { seq })?;
@@ -127,7 +128,7 @@ fn first_other_command(alloc: Global, commands: u64) -> Result<Option<u64>, NoMe
         plain: PlainQueue::new(alloc, 4),
     };
     for seq in 0..commands {
-        if !agree_on_command(&mut both, seq)? {
+        if !agree_on_command(alloc, &mut both, seq)? {
             return Ok(Some(seq));
         }
     }
@@ -157,52 +158,119 @@ fn a_queue_takes_the_pages_of_its_ring_and_its_slots(rt: HostRuntime) -> Result<
     Ok(())
 }
 
+const TAG: Tag = Tag { guest: 2, floor: 5 };
+
+// A command of three bytes, to be answered with at most two.
+fn post() -> RingCall {
+    RingCall::Post {
+        bytes: Piece::short(&[1; 3]),
+        writable: 2,
+        tag: TAG,
+    }
+}
+
+fn complete() -> RingCall {
+    RingCall::Complete {
+        seq: 0,
+        bytes: Piece::short(&[8; 3]),
+        floor: 6,
+    }
+}
+
 #[test]
 fn a_command_goes_through_its_queue(rt: HostRuntime) -> Result<(), NoMemory> {
     let mut ring = AdminRing::new(rt.alloc(), 4)?;
-    let tag = Tag { guest: 2, floor: 5 };
-    let post = RingCall::Post {
-        bytes: piece(1, 3),
-        writable: 2,
-        tag,
-    };
-    let complete = RingCall::Complete {
-        seq: 0,
-        bytes: piece(8, 3),
-        floor: 6,
-    };
-    let reset = RingCall::Reset { floors: floors() };
     let calls = [
-        (&post, RingReply::Seq(0)),
-        (&post, RingReply::Seq(1)),
-        (&post, RingReply::Full),
+        (post(), RingReply::Seq(0)),
+        (post(), RingReply::Seq(1)),
+        (post(), RingReply::Full),
         (
-            &RingCall::Pop,
+            RingCall::Pop,
             RingReply::Fetched {
                 seq: 0,
-                bytes: piece(1, 3),
+                bytes: Piece::short(&[1; 3]),
                 writable: 2,
-                tag,
+                tag: TAG,
             },
         ),
-        (&RingCall::Pop, RingReply::InService { seq: 0 }),
-        (&RingCall::Take { seq: 0 }, RingReply::NotYet),
-        (&complete, RingReply::Completed),
-        (&reset, RingReply::ResetDone),
+        (RingCall::Pop, RingReply::InService { seq: 0 }),
+        (RingCall::Take { seq: 0 }, RingReply::NotYet),
+        (complete(), RingReply::Completed),
+        (RingCall::Reset { floors: floors() }, RingReply::ResetDone),
         (
-            &RingCall::Take { seq: 0 },
+            RingCall::Take { seq: 0 },
             RingReply::Ready {
-                bytes: piece(8, 2),
+                bytes: Piece::short(&[8; 2]),
                 floor: 6,
             },
         ),
-        (&RingCall::Take { seq: 1 }, RingReply::Lost { floor: 700 }),
-        (&RingCall::Take { seq: 1 }, RingReply::Stale),
-        (&post, RingReply::Closed { floor: 700 }),
-        (&RingCall::Pop, RingReply::Empty),
+        (RingCall::Take { seq: 1 }, RingReply::Lost { floor: 700 }),
+        (RingCall::Take { seq: 1 }, RingReply::Stale),
+        (post(), RingReply::Closed { floor: 700 }),
+        (RingCall::Pop, RingReply::Empty),
     ];
     for (call, reply) in &calls {
         assert_eq!(rt; reply_to(&mut ring, call)?, *reply);
+    }
+    Ok(())
+}
+
+// What a command of so many bytes is fetched as, and taken as once it is completed with so many.
+fn fetched_and_taken(
+    alloc: Global,
+    len: u64,
+    writable: u32,
+    count: u64,
+) -> Result<(RingReply, RingReply), NoMemory>
+    requires len { len ≤ 256 }
+    requires count { count ≤ 256 }
+{
+    let mut ring = AdminRing::new(alloc, 4)?;
+    let post = RingCall::Post {
+        bytes: piece(alloc, 1, len)?,
+        writable,
+        tag: TAG,
+    };
+    let complete = RingCall::Complete {
+        seq: 0,
+        bytes: piece(alloc, 8, count)?,
+        floor: 6,
+    };
+    reply_to(&mut ring, &post)?;
+    let fetched = reply_to(&mut ring, &RingCall::Pop)?;
+    reply_to(&mut ring, &complete)?;
+    let taken = reply_to(&mut ring, &RingCall::Take { seq: 0 })?;
+    Ok((fetched, taken))
+}
+
+#[test]
+fn long_commands_and_answers_go_through_their_queue(rt: HostRuntime) -> Result<(), NoMemory> {
+    let alloc = rt.alloc();
+    for len in [0u64, 39, 40, 256] {
+        for (writable, count, kept) in [
+            (39, 39, 39),
+            (39, 40, 39),
+            (40, 39, 39),
+            (40, 40, 40),
+            (256, 200, 200),
+        ] {
+            let fetched = RingReply::Fetched {
+                seq: 0,
+                bytes: piece(alloc, 1, len)?,
+                writable,
+                tag: TAG,
+            };
+            let taken = RingReply::Ready {
+                bytes: piece(alloc, 8, kept)?,
+                floor: 6,
+            };
+            let replies = fetched_and_taken(alloc, len, writable, count)?;
+            assert_eq!(rt;
+                replies,
+                (fetched, taken),
+                "{len} bytes, {writable} writable, {count} written"
+            );
+        }
     }
     Ok(())
 }

@@ -1,4 +1,6 @@
 pub mod Limits
+pub mod Short
+pub mod ShortCompletions
 pub mod Replies
 pub mod RunGrammar
 pub mod Causes

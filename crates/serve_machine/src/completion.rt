@@ -1,25 +1,24 @@
 //! The completion rule: what a command is completed with, VIRTIO 1.3, 2.12.1 (group administration commands).
 ghost use Rattle.std.specs.Prelude.{◌≡◌, ◌≤◌, ◌+◌, max, [], length};
 ghost use Rattle.byte_fields.specs.Places.{bytes_of};
-ghost use Rattle.admin_wire.specs.Numbers.{ok, enomem, einval, unqualified, qualifier_number};
+ghost use Rattle.admin_wire.specs.Numbers.{ok, enomem, einval, unqualified, place_payload_limit, qualifier_number};
 ghost use Rattle.admin_wire.specs.Done.{done_of};
-ghost use Rattle.group_calls.specs.Limits.{writable_limit};
 ghost use Rattle.serve_machine.specs.Completion.{info, owner_done, access_done, completed_with, completed_under};
-ghost use Rattle.serve_machine.specs.Within.{IsLow};
+ghost use Rattle.serve_machine.specs.Within.{IsShortReply, IsShort, IsLow};
 
 use admin_wire::{INFO_SIZE, Qualifier, Status, write_done};
 use board_text::Piece;
 use group_calls::{MemberReply, OwnerReply, Told};
 
-// The notify information of a member: one entry, and three that are empty.
-fn info() -> [u8; INFO_SIZE]
-    ensures { result ≡ info }
-{
-    let mut bytes = [0; INFO_SIZE];
-    bytes[0] = 2;
-    bytes[1] = 2;
-    bytes
-}
+// The completion with the notify information of a member: the status OK without a qualifier, and 4 reserved bytes; then
+// one entry, and three that are empty.
+static INFORMED: [u8; 8 + INFO_SIZE] = [
+    0, 0, 0, 0, 0, 0, 0, 0, //
+    2, 2, 0, 0, 0, 0, 0, 0, 0, 0, 0, 0, 0, 0, 0, 0, //
+    0, 0, 0, 0, 0, 0, 0, 0, 0, 0, 0, 0, 0, 0, 0, 0, //
+    0, 0, 0, 0, 0, 0, 0, 0, 0, 0, 0, 0, 0, 0, 0, 0, //
+    0, 0, 0, 0, 0, 0, 0, 0, 0, 0, 0, 0, 0, 0, 0, 0, //
+];
 
 // The first word of a list of opcodes.
 fn list_bytes(bits: u64) -> [u8; 8]
@@ -28,9 +27,9 @@ fn list_bytes(bits: u64) -> [u8; 8]
     bits.to_le_bytes()
 }
 
-// A command was performed, with this result.
+// A command was performed, with this result, which is short.
 fn put_performed(result_bytes: &[u8], writable: u32, bytes: &mut Piece)
-    requires { writable ≤ writable_limit }
+    requires { length result_bytes.now ≤ place_payload_limit }
     ensures { bytes.new ≡ done_of ok unqualified result_bytes.now writable }
 {
     *bytes = write_done(
@@ -41,9 +40,16 @@ fn put_performed(result_bytes: &[u8], writable: u32, bytes: &mut Piece)
     );
 }
 
+// A member's notify information was asked for. The bytes stay where they are.
+fn put_informed(writable: u32, bytes: &mut Piece)
+    ensures { bytes.new ≡ done_of ok unqualified info writable }
+{
+    *bytes = Piece::lent(&INFORMED);
+    bytes.truncate(writable);
+}
+
 // A command wasn't performed, and these are the numbers of its status and its qualifier.
 fn put_refused(status: u16, qualifier: u16, writable: u32, bytes: &mut Piece)
-    requires { writable ≤ writable_limit }
     ensures { bytes.new ≡ done_of status qualifier [] writable }
 {
     *bytes = write_done(status, qualifier, &[], writable);
@@ -51,7 +57,6 @@ fn put_refused(status: u16, qualifier: u16, writable: u32, bytes: &mut Piece)
 
 // A register access wasn't carried out.
 fn put_invalid(qualifier: Qualifier, writable: u32, bytes: &mut Piece)
-    requires { writable ≤ writable_limit }
     ensures { bytes.new ≡ done_of einval (qualifier_number qualifier) [] writable }
 {
     put_refused(Status::Einval.number(), qualifier.number(), writable, bytes);
@@ -59,7 +64,6 @@ fn put_invalid(qualifier: Qualifier, writable: u32, bytes: &mut Piece)
 
 // There was no memory for a command.
 fn put_no_memory(writable: u32, bytes: &mut Piece)
-    requires { writable ≤ writable_limit }
     ensures { bytes.new ≡ done_of enomem unqualified [] writable }
 {
     let qualifier = Qualifier::Unqualified.number();
@@ -68,7 +72,6 @@ fn put_no_memory(writable: u32, bytes: &mut Piece)
 
 // As `owner_done`, in this place.
 fn put_owner_done(reply: &OwnerReply, writable: u32, bytes: &mut Piece)
-    requires { writable ≤ writable_limit }
     ensures { bytes.new ≡ owner_done writable reply.now }
 {
     match reply {
@@ -86,7 +89,6 @@ fn put_owner_done(reply: &OwnerReply, writable: u32, bytes: &mut Piece)
 /// The completion of a command that the owner decided by this reply. An access that goes to its member isn't
 /// completed yet and has no bytes.
 pub fn owner_done(reply: &OwnerReply, writable: u32) -> Piece
-    requires { writable ≤ writable_limit }
     ensures { result ≡ owner_done writable reply.now }
 {
     let mut bytes = Piece::new();
@@ -96,22 +98,22 @@ pub fn owner_done(reply: &OwnerReply, writable: u32) -> Piece
 
 // As `access_done`, in this place.
 fn put_access_done(reply: &MemberReply, writable: u32, bytes: &mut Piece)
-    requires { writable ≤ writable_limit }
+    requires { IsShortReply reply.now }
     ensures { bytes.new ≡ access_done writable reply.now }
 {
     match reply {
         MemberReply::Data(data) => put_performed(data.as_slice(), writable, bytes),
         MemberReply::Written => put_performed(&[], writable, bytes),
-        MemberReply::Info => put_performed(&info(), writable, bytes),
+        MemberReply::Info => put_informed(writable, bytes),
         MemberReply::Refused(_) => put_invalid(Qualifier::InvalidField, writable, bytes),
         MemberReply::Gone { .. } => put_invalid(Qualifier::InvalidMember, writable, bytes),
         _ => bytes.truncate(0),
     }
 }
 
-/// The completion of a register access that its member answered so.
+/// The completion of a register access that its member answered so. What a read gave has at most 31 bytes.
 pub fn access_done(reply: &MemberReply, writable: u32) -> Piece
-    requires { writable ≤ writable_limit }
+    requires { IsShortReply reply.now }
     ensures { result ≡ access_done writable reply.now }
 {
     let mut bytes = Piece::new();
@@ -122,7 +124,7 @@ pub fn access_done(reply: &MemberReply, writable: u32) -> Piece
 /// The completion of a command that the owner or its member answered so, or for which there was no memory, in this
 /// place.
 pub(crate) fn put_completed_with(told: &Told, writable: u32, bytes: &mut Piece)
-    requires { writable ≤ writable_limit }
+    requires { IsShort told.now }
     ensures { bytes.new ≡ completed_with told.now writable }
 {
     match told {

@@ -1,6 +1,7 @@
-//! What a service asks, as a grammar, and why its completion has its status.
-ghost use Rattle.std.specs.Prelude.{ℕ, ◌≡◌, ◌≤◌, List, ◌∷◌, ◌↔◌, length};
+//! What a service asks, as a grammar, why its completion has its status, and how long it is.
+ghost use Rattle.std.specs.Prelude.{ℕ, ◌+◌, ◌≡◌, ◌≤◌, List, ◌∷◌, ◌↔◌, length};
 ghost use Rattle.byte_fields.specs.Places.{le16};
+ghost use Rattle.admin_wire.specs.Numbers.{fixed_size, info_size};
 ghost use Rattle.group_calls.specs.declared.ask.Ask.TheVariants.{Queue};
 ghost use Rattle.group_calls.specs.declared.queue.RingCall.TheVariants.{Complete};
 ghost use Rattle.group_calls.specs.Asks.{Exchange};
@@ -26,6 +27,12 @@ pub fn a_status_has_its_cause()
     ensures { (queue seq floor : ℕ) (bytes : List ℕ) (complete decides : Exchange) (past : List Exchange)
         → IsAnsweredService queue (complete ∷ decides ∷ past) → complete.0 ≡ Queue queue (Complete seq bytes floor) → 2 ≤ length bytes
         → HasItsCause (le16 0 bytes) decides.1 }
+{}
+
+/// A command is completed with at most 72 bytes, which are those of the notify information.
+pub fn completions_are_short()
+    ensures { (queue seq floor : ℕ) (bytes : List ℕ) (complete : Exchange) (past : List Exchange)
+        → IsAnsweredService queue (complete ∷ past) → complete.0 ≡ Queue queue (Complete seq bytes floor) → length bytes ≤ fixed_size + info_size }
 {}
 
 fn crosses<T: Send + Sync>() {}

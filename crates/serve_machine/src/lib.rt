@@ -4,7 +4,7 @@
 //! It stands on `group_calls`, whose asks and answers it speaks, and on `admin_wire` for the bytes of completions. Its
 //! main clauses are those of `Server::next`, the ask of the stage, and of `Server::feed`, the stage after an answer;
 //! `owner_done` and `access_done` are the completion rule. In `laws` stands that what the machine asks is one service
-//! by a grammar, and why a completion has its status. Nothing here takes memory.
+//! by a grammar, why a completion has its status, and how long it is. Nothing here takes memory.
 #![tactic(auto)]
 
 mod completion;

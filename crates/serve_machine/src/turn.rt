@@ -1,8 +1,7 @@
 //! The stage after an answer, in the place of the stage before.
-ghost use Rattle.std.specs.Prelude.{◌≡◌, ◌≤◌};
-ghost use Rattle.group_calls.specs.Limits.{writable_limit};
+ghost use Rattle.std.specs.Prelude.{◌≡◌};
 ghost use Rattle.serve_machine.specs.Service.{after_pop, completing, after_judge};
-ghost use Rattle.serve_machine.specs.Within.{IsLow};
+ghost use Rattle.serve_machine.specs.Within.{IsShort, IsLow};
 
 use crate::completion::{completed_under, put_completed_with};
 use crate::stage::{Fetched, Stage};
@@ -65,7 +64,7 @@ pub(crate) fn put_after_pop(told: &Told, stage: &mut Stage)
 
 /// After the answer that decides the command, which is completed by the completion rule.
 pub(crate) fn put_completing(command: Fetched, told: &Told, stage: &mut Stage)
-    requires few { command.writable ≤ writable_limit }
+    requires short { IsShort told.now }
     requires low { IsLow told.now }
     ensures { stage.new ≡ completing command told.now }
 {
@@ -81,7 +80,7 @@ pub(crate) fn put_completing(command: Fetched, told: &Told, stage: &mut Stage)
 
 /// After the owner was asked for its verdict: a register access goes to its member.
 pub(crate) fn put_after_judge(command: Fetched, told: &Told, stage: &mut Stage)
-    requires few { command.writable ≤ writable_limit }
+    requires short { IsShort told.now }
     requires low { IsLow told.now }
     ensures { stage.new ≡ after_judge command told.now }
 {

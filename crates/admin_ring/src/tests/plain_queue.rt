@@ -15,6 +15,12 @@ struct Command {
     completion: Option<(Piece, u64)>,
 }
 
+fn first_bytes(bytes: &Piece, most: u32) -> Piece {
+    let mut bytes = bytes.copy();
+    bytes.truncate(most);
+    bytes
+}
+
 #[derive(Drop)]
 pub struct PlainQueue {
     most: usize,
@@ -127,7 +133,7 @@ impl PlainQueue {
         let command = &self.commands[place];
         let reply = match (&command.completion, &self.floors) {
             (Some((bytes, floor)), _) => RingReply::Ready {
-                bytes: bytes.first(command.writable),
+                bytes: first_bytes(bytes, command.writable),
                 floor: *floor,
             },
             (None, Some(floors)) => RingReply::Lost {
