@@ -1,7 +1,7 @@
 use Rattle.actor_core.proofs.turned.turns.Goals as goal
 
 pub returns-in-Brings-clause-doing : goal.returns-in-Brings-clause-doing
-returns-in-Brings-clause-doing c = rw c.in-Brings.is c.brought.ensures.doing
+returns-in-Brings-clause-doing c = c.brought.ensures.doing
 
 pub returns-in-Empties-clause-doing : goal.returns-in-Empties-clause-doing
 returns-in-Empties-clause-doing c = rw c.in-Empties.is c.emptied.ensures.doing
