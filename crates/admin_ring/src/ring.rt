@@ -126,6 +126,14 @@ impl AdminRing {
         })
     }
 
+    /// Asks for room for so many calls more, so that the history is moved less often as it grows. It promises none: a
+    /// later call may still be answered `NoMemory`. Contracts see the queue as it was, whatever the answer is.
+    pub fn reserve(&mut self, calls: u64) -> Result<(), NoMemory>
+        ensures { self.new ≡ self.old }
+    {
+        self.log.reserve(calls)
+    }
+
     fn post(
         &mut self,
         who: u32,
