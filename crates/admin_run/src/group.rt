@@ -3,7 +3,6 @@ ghost use Rattle.std.specs.Prelude.{◌≡◌, ◌≤◌, ◌<◌, ◌++◌, ◌
 ghost use Rattle.std.specs.List.{slice_get};
 ghost use Rattle.group_calls.specs.declared.owner.OwnerCall.TheVariants.{SetVfs, Judge};
 ghost use Rattle.group_calls.specs.declared.member.MemberCall.TheVariants.{Act, Kill};
-ghost use Rattle.group_calls.specs.Limits.{writable_limit};
 ghost use Rattle.group_calls.specs.Owner.{owner_answer, owner_may};
 ghost use Rattle.admin_run.specs.Group.{first_group, fresh_member, kind_of as kind_for, called, called_at, member_of, acted, after_line, asked, floor_after_kill};
 ghost use Rattle.admin_run.specs.Completion.{completion as completion_of};
@@ -116,7 +115,6 @@ fn carry_out(
     verdict: OwnerReply,
     writable: u32,
 ) -> Result<Piece, NoMemory>
-    requires { writable ≤ writable_limit }
     ensures length { length members.new.items ≡ length members.old.items }
     ensures members { OnOk result (members.new.items ≡ acted_on members.old.items verdict) }
     ensures done { IfOk result (λ done. done ≡ done_for members.old.items writable verdict) }
