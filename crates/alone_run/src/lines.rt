@@ -39,7 +39,7 @@ fn write_event(bar: &Bar, io: bool, offset: u8, bytes: &Bytes) -> Option<LoneEve
     ensures event { result ≡ write_event_of bar.now io offset bytes.now }
     ensures width { IsEvent result }
 {
-    let bytes = Piece::from_slice(bytes.as_slice());
+    let bytes = Piece::short(bytes.as_slice());
     let access = Access::Write {
         offset,
         bytes: bytes.copy(),
