@@ -1,5 +1,6 @@
 //! At most 4096 bytes, which lie in the value itself.
-ghost use Rattle.std.specs.Prelude.{◌≡◌, ◌+◌, ◌-◌, ◌<◌, ◌≤◌, [], ◌∷◌, ◌++◌, length};
+ghost use Rattle.std.specs.Prelude.{◌≡◌, ◌+◌, ◌-◌, ◌*◌, ◌<◌, ◌≤◌, [], ◌∷◌, ◌++◌, length};
+ghost use Rattle.hex.specs.Hex.{encode_lower};
 ghost use Rattle.board_render.specs.Limits.{piece_limit};
 
 use std::marker::Model;
@@ -75,6 +76,16 @@ impl Buffer {
     {
         let end = self.count + bytes.len();
         self.bytes[self.count..end].copy_from_slice(bytes);
+        self.count = end;
+    }
+
+    /// Appends bytes in hex, for whose digits there is room.
+    pub fn extend_hex(&mut self, bytes: &[u8])
+        requires { length self.old + 2 * length bytes.now ≤ piece_limit }
+        ensures { self.new ≡ self.old ++ encode_lower bytes.now }
+    {
+        let end = self.count + 2 * bytes.len();
+        hex::encode_to_slice(bytes, &mut self.bytes[self.count..end]).unwrap();
         self.count = end;
     }
 }
