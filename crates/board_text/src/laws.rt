@@ -4,7 +4,7 @@ ghost use Rattle.board_text.specs.Limits.{short_limit, piece_limit, place_limit,
 
 use crate::byte_lists::{Bytes, SHORT_LIMIT};
 use crate::decimal::Malformed;
-use crate::floors::{FLOOR_LIMIT, Floors};
+use crate::floors::{FLOOR_LIMIT, FloorList, Floors};
 use crate::hex_text::HexFault;
 use crate::lines::LineSpan;
 use crate::pieces::{PIECE_LIMIT, PLACE_LIMIT, Piece};
@@ -23,6 +23,7 @@ fn is_shared<T: Send + Sync>() {}
 pub fn texts_cross_threads() {
     is_shared::<Bytes>();
     is_shared::<Piece>();
+    is_shared::<FloorList>();
     is_shared::<Floors>();
     is_shared::<LineSpan>();
     is_shared::<Malformed>();

@@ -142,6 +142,24 @@ impl Piece {
         Ok(Piece::lent(Vec::from_slice(alloc, bytes)?.leak()))
     }
 
+    /// A copy of both parts, the front one first, which have at most 256 bytes together. Up to 39 take no memory; that of
+    /// more stays, even when the piece is gone.
+    pub fn joined(alloc: Global, front: &[u8], back: &[u8]) -> Result<Piece, NoMemory>
+        requires { length front.now + length back.now ≤ piece_limit }
+        ensures value { IfOk result (λ piece. piece ≡ front.now ++ back.now) }
+        ensures memory { length front.now + length back.now ≤ place_limit → IsOk result }
+    {
+        if front.len() + back.len() <= PLACE_LIMIT {
+            let mut piece = Piece::short(front);
+            piece.extend(back);
+            return Ok(piece);
+        }
+        let mut bytes = Vec::with_capacity(alloc, front.len() + back.len())?;
+        bytes.extend_from_slice(front)?;
+        bytes.extend_from_slice(back)?;
+        Ok(Piece::lent(bytes.leak()))
+    }
+
     /// The same bytes once more, without memory.
     pub fn copy(&self) -> Piece
         ensures { result ≡ self.now }
