@@ -101,6 +101,10 @@ wire_limit = 256
 abbrev pub result_limit : ℕ
 result_limit = 248
 
+-- and so the data of a write
+abbrev pub data_limit : ℕ
+data_limit = 224
+
 -- the data of a write whose command lies in a piece itself, and a result whose completion does: what a piece's 39 bytes leave behind the 32 before data, and behind the 8 before a result. Of this project
 abbrev pub place_data_limit : ℕ
 place_data_limit = 7

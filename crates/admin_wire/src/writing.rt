@@ -1,6 +1,6 @@
 //! Commands as a driver writes them.
-ghost use Rattle.std.specs.Prelude.{◌≡◌, ◌+◌, ◌≤◌, ℕ, length};
-ghost use Rattle.admin_wire.specs.Numbers.{fixed_size, place_data_limit, result_limit, wire_limit};
+ghost use Rattle.std.specs.Prelude.{◌≡◌, ◌+◌, ◌≤◌, ℕ, length, IsOk, IfOk};
+ghost use Rattle.admin_wire.specs.Numbers.{data_limit, fixed_size, place_data_limit, result_limit, wire_limit};
 ghost use Rattle.admin_wire.specs.Command.{command_of};
 ghost use Rattle.admin_wire.specs.Writing.{fixed_part, opcode_for, bytes_written, result_length, query_bytes, use_bytes, legacy_bytes, query_command, use_command, legacy_command};
 
@@ -11,6 +11,7 @@ use crate::numbers::{
 };
 use board_text::Piece;
 use byteorder::{ByteOrder, LittleEndian};
+use std::alloc::{AllocError as NoMemory, Global};
 
 // The first 24 bytes of a command.
 fn write_fixed_part(opcode: u16, member: u64) -> Piece
@@ -80,6 +81,31 @@ pub fn write_legacy(member: u64, command: &LegacyCmd) -> Piece
         LegacyCmd::Info => {}
     }
     bytes
+}
+
+/// As `write_legacy`, of an access that writes at most 224 bytes, which fill a command. One that writes at most 7 takes no
+/// memory.
+pub fn write_long_legacy(alloc: Global, member: u64, command: &LegacyCmd) -> Result<Piece, NoMemory>
+    requires { length (bytes_written command.now) ≤ data_limit }
+    ensures bytes { IfOk result (λ bytes. bytes ≡ legacy_bytes member command.now) }
+    ensures read_again { IfOk result (λ bytes. command_of bytes (fixed_size + result_length command.now) ≡ legacy_command member command.now) }
+    ensures memory { length (bytes_written command.now) ≤ place_data_limit → IsOk result }
+{
+    match command {
+        LegacyCmd::CommonWrite {
+            offset,
+            bytes: data,
+        }
+        | LegacyCmd::DevWrite {
+            offset,
+            bytes: data,
+        } => {
+            let mut front = write_fixed_part(opcode_of(command), member);
+            front.extend(&[*offset, 0, 0, 0, 0, 0, 0, 0]);
+            Piece::joined(alloc, front.as_slice(), data.as_slice())
+        }
+        command => Ok(write_legacy(member, command)),
+    }
 }
 
 /// How many bytes the completion of an access may have: the fixed 8, and those of its result. A read is
