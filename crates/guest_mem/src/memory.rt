@@ -30,6 +30,23 @@ impl Model for GuestMem {
     ghost invariant = { λ m. length m.bytes.items ≤ memory_limit };
 }
 
+// How many zeros are added at once.
+const PART_SIZE: usize = 1024;
+
+const PARTS_IN_PAGE: u32 = 4;
+
+// So many parts of zeros.
+fn zeros(alloc: Global, parts: u32) -> Result<Vec<u8>, NoMemory>
+    requires { parts ≤ 4 * page_limit }
+    ensures { IfOk result (λ bytes. bytes.items ≡ replicate (1024 * parts) 0) }
+{
+    let mut bytes = Vec::with_capacity(alloc, PART_SIZE * parts as usize)?;
+    'parts: for _part in 0..parts {
+        bytes.extend_from_slice(&[0; PART_SIZE])?;
+    }
+    Ok(bytes)
+}
+
 impl GuestMem {
     /// A memory of 1 to 64 pages of zeros. `NoMemory` where the bytes can't be had.
     pub fn new(alloc: Global, pages: u32) -> Result<GuestMem, NoMemory>
@@ -37,9 +54,7 @@ impl GuestMem {
         requires most { pages ≤ page_limit }
         ensures { IfOk result (λ mem. mem ≡ replicate (page_size * pages) 0) }
     {
-        let size = PAGE_SIZE as usize * pages as usize;
-        let mut bytes = Vec::new(alloc);
-        bytes.resize(size, 0)?;
+        let bytes = zeros(alloc, PARTS_IN_PAGE * pages)?;
         Ok(GuestMem { bytes })
     }
 
