@@ -4,7 +4,7 @@ use Rattle.history.specs.Limits.{history_limit}
 use Rattle.group_calls.specs.declared.ask.Told.{Told}
 use Rattle.group_calls.specs.declared.ask.Told.TheVariants.{Member as FromMember}
 use Rattle.host_machine.specs.declared.stage.Stage.{Stage}
-use Rattle.host_machine.specs.declared.stage.Stage.TheVariants.{Delivering, Killing, Closing}
+use Rattle.host_machine.specs.declared.stage.Stage.TheVariants.{Delivering, Killing, Resetting, Closing}
 
 -- a member is to be killed: its floor needs a place among the floors
 abbrev pub kills_in : Stage → ℕ
@@ -21,7 +21,9 @@ abbrev pub IsLow : Told → Type 0
 IsLow (FromMember placed) = placed.at ≤ history_limit
 IsLow _ = Unit {0}
 
--- a frame is to be copied
-abbrev pub has_frame : Stage → Bool
-has_frame (Delivering member frame) = true
-has_frame _ = false
+-- a frame is to be copied, or floors are
+abbrev pub wants_memory : Stage → Bool
+wants_memory (Delivering member frame) = true
+wants_memory Resetting = true
+wants_memory (Closing queue) = true
+wants_memory _ = false

@@ -3,12 +3,13 @@ ghost use Rattle.std.specs.Prelude.{◌≡◌, ◌+◌, ◌≤◌, false, length
 ghost use Rattle.byte_fields.specs.Sizes.{guest_limit};
 ghost use Rattle.group_calls.specs.Asks.{AnswersAsk};
 ghost use Rattle.host_machine.specs.Machine.{first, next_ask, after};
-ghost use Rattle.host_machine.specs.Within.{kills_in, queue_in, has_frame};
+ghost use Rattle.host_machine.specs.Within.{kills_in, queue_in, wants_memory};
 
 use crate::line::HostLine;
 use crate::stage::{Stage, Underway, after, first};
+use board_text::Floors;
 use group_calls::{Ask, MemberCall, OwnerCall, RingCall, Told};
-use std::alloc::AllocError as NoMemory;
+use std::alloc::{AllocError as NoMemory, Global};
 
 /// One line of the host, which it performs ask by ask. Whatever an answer is, the line goes on; want of memory shows no
 /// floor. Of this project.
@@ -44,10 +45,11 @@ impl Host {
         }
     }
 
-    /// The next ask, or nothing once the line has ended. A frame is copied, which alone may want memory.
-    pub fn next(&self) -> Result<Option<Ask>, NoMemory>
+    /// The next ask, or nothing once the line has ended. A frame is copied, and floors are, where a call has some; these alone
+    /// may want memory.
+    pub fn next(&self, alloc: Global) -> Result<Option<Ask>, NoMemory>
         ensures ok { IfOk result (λ ask. ask ≡ next_ask self.now.line) }
-        ensures spares { has_frame self.now.line.stage ≡ false → IsOk result }
+        ensures spares { wants_memory self.now.line.stage ≡ false → IsOk result }
     {
         let floors = &self.line.floors;
         Ok(match &self.line.stage {
@@ -65,12 +67,12 @@ impl Host {
             })),
             Stage::Killing => Some(on_member(floors.length() + 1, MemberCall::Kill)),
             Stage::Resetting => Some(Ask::Owner(OwnerCall::Reset {
-                floors: floors.copy(),
+                floors: Floors::of(alloc, floors)?,
             })),
             Stage::Closing { queue } => Some(Ask::Queue {
                 index: *queue,
                 call: RingCall::Reset {
-                    floors: floors.copy(),
+                    floors: Floors::of(alloc, floors)?,
                 },
             }),
             Stage::Ended => None,

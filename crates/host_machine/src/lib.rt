@@ -3,7 +3,8 @@
 //!
 //! It stands on `group_calls`, whose asks and answers it speaks, and on `board_text` for frames and floors. Its main
 //! clauses are those of `Host::next`, the ask of the stage, and of `Host::feed`, the stage after an answer. In `laws`
-//! stands that what the machine asks for a line is that line by a grammar. Memory is taken only where a frame is copied.
+//! stands that what the machine asks for a line is that line by a grammar. Memory is taken only where a frame is copied,
+//! and where a call has floors.
 #![tactic(auto)]
 
 mod host;

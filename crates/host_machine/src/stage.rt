@@ -5,7 +5,7 @@ ghost use Rattle.host_machine.specs.Machine.{floor_of, first, killing, closing, 
 ghost use Rattle.host_machine.specs.Within.{IsLow, kills_in, queue_in};
 
 use crate::line::HostLine;
-use board_text::{Bytes, Floors};
+use board_text::{Bytes, FloorList};
 use group_calls::{MemberReply, Told};
 
 /// What a line asks next. Of this project.
@@ -33,7 +33,7 @@ pub enum Stage {
 #[derive(Debug, Drop, PartialEq, Eq)]
 pub struct Underway {
     pub stage: Stage,
-    pub floors: Floors,
+    pub floors: FloorList,
 }
 
 // The floor of the member that its answer shows.
@@ -51,7 +51,7 @@ fn floor_of(told: &Told) -> u64
 }
 
 // Each member is killed, and then the owner is reset.
-fn killing(members: u32, floors: &Floors) -> Stage
+fn killing(members: u32, floors: &FloorList) -> Stage
     ensures { result ≡ killing members floors.now }
 {
     if floors.length() < members {
@@ -76,7 +76,7 @@ fn closing(queues: u32, queue: u32) -> Stage
 pub(crate) fn first(members: u32, line: HostLine) -> Underway
     ensures { result ≡ first members line }
 {
-    let floors = Floors::new();
+    let floors = FloorList::new();
     let stage = match line {
         HostLine::Frame { member, frame } => Stage::Delivering { member, frame },
         HostLine::Flr { member } => Stage::Restarting { member },
@@ -87,7 +87,7 @@ pub(crate) fn first(members: u32, line: HostLine) -> Underway
 }
 
 // One member more was killed.
-fn killed(members: u32, floors: &Floors, floor: u64) -> Underway
+fn killed(members: u32, floors: &FloorList, floor: u64) -> Underway
     requires { length floors.now < guest_limit }
     ensures floors { result.floors ≡ floors.now ++ floor ∷ [] }
     ensures stage { result.stage ≡ killing members (floors.now ++ floor ∷ []) }
