@@ -1,9 +1,9 @@
 -- An actor behind a line that begins, and behind one answer more.
-use Rattle.std.proofs.Common.{◌≡◌, ℕ, ◌+◌, false, List, ◌∷◌, ◌++◌, map, length, Option, None, Some, refl, sym, ap, ◌∙◌, subst, arith}
+use Rattle.std.proofs.Common.{◌≡◌, ℕ, ◌+◌, Bool, true, false, if◌then◌else◌, List, [], ◌∷◌, ◌++◌, map, length, Option, None, Some, refl, sym, ap, ◌∙◌, subst, arith}
 use Rattle.std.specs.Prelude.{IsSomeAnd}
 use Rattle.group_calls.specs.declared.ask.Ask.{Ask}
 use Rattle.group_calls.specs.declared.ask.Told.{Told}
-use Rattle.group_calls.specs.Asks.{Exchange}
+use Rattle.group_calls.specs.Asks.{AnswersAsk, Exchange}
 use Rattle.board_script.specs.Script.{Whole}
 use Rattle.journal.specs.Lines.{Line, counts_members, brings_up, performs, empties, finishes}
 use Rattle.journal.specs.Knowing.{knows}
@@ -11,14 +11,16 @@ use Rattle.journal.specs.Performing.{Performed, all_asked, doing}
 use Rattle.journal.specs.Settling.{is_used_up, left_by}
 use Rattle.journal.specs.Texts.{answer_lines}
 use Rattle.actor_core.specs.declared.actor.Actor.{Actor}
+use Rattle.actor_core.specs.declared.items.TraceItem.{TraceItem}
 use Rattle.actor_core.specs.declared.lines.Lines.{Lines}
-use Rattle.actor_core.specs.Kept.{number_of, trace_of, left_pair, and_left, with_item}
+use Rattle.actor_core.specs.declared.performer.Performer.{Performer}
+use Rattle.actor_core.specs.Kept.{number_of, trace_of, left_pair, and_left, has_left, with_item}
 use Rattle.actor_core.specs.Boards.{AreBegun}
 use Rattle.actor_core.specs.Performers.{asks_next, now_doing, known_by, ending_by, left_by as left_of}
 use Rattle.actor_core.specs.Stands.{Stands}
 use Rattle.actor_core.specs.Shown.{answers_text, ending_text}
 use Rattle.actor_core.specs.Answered.{IsGuestNumber, IsOutside, ended_of}
-use Rattle.actor_core.specs.Actors.{StandsWhole, begun, and_asked}
+use Rattle.actor_core.specs.Actors.{StandsWhole, IsGiven, IsHeard, IsNoted, IsNotedBut, begun, and_asked}
 use Rattle.actor_core.specs.Found.{HasBegun}
 use Rattle.actor_core.proofs.Leaving.{asks_unused, left_next}
 use Rattle.actor_core.proofs.Telling.{guest_goes_on, begun_text, fed_text}
@@ -75,3 +77,39 @@ stands_whole_fed s who performed past old new ask told stands asked performer li
 pub given_at : (given : Option Ask) (P : Ask → Type 0) → IsSomeAnd given P → (ask : Ask) × (given ≡ Some ask)
 given_at None P some = absurd some
 given_at (Some ask) P some = (ask, refl)
+
+-- an answer that left an entry is traced, and another isn't
+pub with_kept : (number : ℕ) (ask : Ask) (told : Told) (items : List TraceItem) → has_left told ≡ true → with_item number (ask, told) items ≡ items ++ record { line = number; ask = ask; told = told } ∷ []
+with_kept number ask told items left = ap (λ (b : Bool). if b then items ++ record { line = number; ask = ask; told = told } ∷ [] else items) left
+
+pub with_lost : (number : ℕ) (ask : Ask) (told : Told) (items : List TraceItem) → has_left told ≡ false → with_item number (ask, told) items ≡ items
+with_lost number ask told items left = ap (λ (b : Bool). if b then items ++ record { line = number; ask = ask; told = told } ∷ [] else items) left
+
+-- the performer has gone on, the queue that it left is noted, and what it was told is; and then the ask is traced
+pub behind_answer : (s : Whole) (who : ℕ) (performed : Performed) (past : List Performed) (old heard left noted new : Actor) (told : Told) → IsGiven old told → IsSomeAnd old.given (λ ask. IsHeard old heard ask told)
+    → IsNotedBut heard left → left.given ≡ heard.given → (left.short ≡ false → left.kept.left.items.items ≡ and_left (left_of (now_doing heard.performer)) heard.kept.left.items.items)
+    → left.kept.answers.items.items ≡ heard.kept.answers.items.items → IsNoted left noted → noted.given ≡ left.given
+    → new.performer ≡ noted.performer → new.lines ≡ noted.lines → new.number ≡ noted.number → new.outside ≡ noted.outside
+    → ((ask : Ask) → noted.given ≡ Some ask → new.kept.trace.items.items ≡ with_item noted.number (ask, told) noted.kept.trace.items.items)
+    → new.kept.left.items.items ≡ noted.kept.left.items.items → new.kept.answers.items.items ≡ noted.kept.answers.items.items
+    → StandsWhole s who (performed ∷ past) old → noted.short ≡ false → IsSomeAnd old.given (λ ask. StandsWhole s who (and_asked ask told performed ∷ past) new)
+behind_answer s who performed past old heard left noted new told given hears but left_given and_queue left_answers is noted_given performer lines number outside traced kept_left kept_answers stands short =
+    let at = given_at old.given (λ a. (asks_next old.performer ≡ Some a) × AnswersAsk a told) given in
+    let ask = at.0 in
+    let x : Exchange = (ask, told) in
+    let heard_is = subst (λ o. IsSomeAnd o (λ a. IsHeard old heard a told)) at.1 hears in
+    let asked = (subst (λ o. IsSomeAnd o (λ a. (asks_next old.performer ≡ Some a) × AnswersAsk a told)) at.1 given).0 in
+    let performer_is : new.performer ≡ heard.performer = performer ∙ is.but.performer ∙ but.performer in
+    let number_is : noted.number ≡ old.number = is.but.number ∙ but.number ∙ heard_is.number in
+    let trace = is.but.trace ∙ but.trace ∙ heard_is.trace in
+    let lent = noted_given ∙ left_given ∙ heard_is.given ∙ at.1 in
+    subst (λ o. IsSomeAnd o (λ a. StandsWhole s who (and_asked a told performed ∷ past) new)) (sym at.1)
+    (stands_whole_fed s who performed past old new ask told stands asked
+    (subst (λ (p : Performer). Stands s who (and_asked ask told performed ∷ past) p) (sym performer_is) (heard_is.stands s who performed past stands.performer))
+    (lines ∙ is.but.lines ∙ but.lines ∙ heard_is.lines)
+    (number ∙ number_is)
+    (traced ask lent ∙ ap (λ n. with_item n x noted.kept.trace.items.items) number_is ∙ ap (with_item old.number x) trace)
+    (kept_left ∙ is.left ∙ and_queue (is.but.short short)
+    ∙ ap (λ p. and_left (left_of (now_doing p)) heard.kept.left.items.items) (sym performer_is) ∙ ap (and_left (left_of (now_doing new.performer))) heard_is.left)
+    (outside ∙ is.but.outside ∙ but.outside ∙ heard_is.outside)
+    (λ guest. ap answers_text (kept_answers ∙ is.answers ∙ left_answers) ∙ heard_is.answers (subst IsGuestNumber (sym stands.performer.who_is) guest) (but.short (is.but.short short))))
