@@ -5,7 +5,7 @@ mod plain_queue;
 
 use super::*;
 use crate::host::Host;
-use board_text::{Floors, Piece};
+use board_text::{FloorList, Floors, Piece};
 use group_calls::{RingCall, RingReply, Serial, Tag, WRITABLE_LIMIT};
 use plain_queue::PlainQueue;
 use std::alloc::{AllocError as NoMemory, Global};
@@ -41,11 +41,11 @@ fn piece(alloc: Global, byte: u8, len: u64) -> Result<Piece, NoMemory>
     Piece::from_slice(alloc, &bytes[..len as usize])
 }
 
-fn floors() -> Floors {
-    let mut floors = Floors::new();
-    floors.push(9);
-    floors.push(700);
-    floors
+fn floors(alloc: Global) -> Result<Floors, NoMemory> {
+    let mut list = FloorList::new();
+    list.push(9);
+    list.push(700);
+    Floors::of(alloc, &list)
 }
 
 // A call that a random number picks: each kind, of commands that are outstanding and of others.
@@ -93,7 +93,9 @@ fn first_difference(alloc: Global, size: u16) -> Result<Option<u32>, NoMemory>
             .wrapping_mul(6364136223846793005)
             .wrapping_add(1442695040888963407);
         let call = if turn == 99_000 {
-            RingCall::Reset { floors: floors() }
+            RingCall::Reset {
+                floors: floors(alloc)?,
+            }
         } else {
             picked_call(alloc, random, &both.plain)?
         };
@@ -179,7 +181,8 @@ fn complete() -> RingCall {
 
 #[test]
 fn a_command_goes_through_its_queue(rt: HostRuntime) -> Result<(), NoMemory> {
-    let mut ring = AdminRing::new(rt.alloc(), 4)?;
+    let alloc = rt.alloc();
+    let mut ring = AdminRing::new(alloc, 4)?;
     let calls = [
         (post(), RingReply::Seq(0)),
         (post(), RingReply::Seq(1)),
@@ -196,7 +199,12 @@ fn a_command_goes_through_its_queue(rt: HostRuntime) -> Result<(), NoMemory> {
         (RingCall::Pop, RingReply::InService { seq: 0 }),
         (RingCall::Take { seq: 0 }, RingReply::NotYet),
         (complete(), RingReply::Completed),
-        (RingCall::Reset { floors: floors() }, RingReply::ResetDone),
+        (
+            RingCall::Reset {
+                floors: floors(alloc)?,
+            },
+            RingReply::ResetDone,
+        ),
         (
             RingCall::Take { seq: 0 },
             RingReply::Ready {

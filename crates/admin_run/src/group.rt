@@ -10,7 +10,7 @@ ghost use Rattle.admin_run.specs.Kept.{reply_at, acted_on, done_for};
 ghost use Rattle.admin_script.specs.declared.line.AdminLine.TheVariants as AdminLine;
 
 use admin_wire::LegacyCmd;
-use board_text::{Floors, Piece};
+use board_text::{FloorList, Floors, Piece};
 use group_calls::{Kind, MemberCall, MemberReply, OwnerCall, OwnerReply, Serial};
 use member_core::Member;
 use owner_core::Owner;
@@ -78,13 +78,13 @@ fn kill(member: &mut Member) -> Result<u64, NoMemory>
 }
 
 // Kills all members, of which there are at most 16, and says what floors that shows.
-fn kill_all(members: &mut Vec<Member>) -> Result<Floors, NoMemory>
+fn kill_all(members: &mut Vec<Member>) -> Result<FloorList, NoMemory>
     requires { length members.old.items ≤ 16 }
     ensures length { length members.new.items ≡ length members.old.items }
     ensures members { OnOk result (members.new.items ≡ map (called Kill) members.old.items) }
     ensures floors { IfOk result (λ floors. floors ≡ map floor_after_kill members.old.items) }
 {
-    let mut floors = Floors::new();
+    let mut floors = FloorList::new();
     'members: for index in 0..members.len() {
         floors.push(kill(&mut members[index])?);
     }
@@ -155,7 +155,8 @@ impl DeviceGroup {
     pub fn reset(&mut self) -> Result<(), NoMemory>
         ensures { OnOk result (self.new ≡ after_line self.old AdminLine.Reset) }
     {
-        let floors = kill_all(&mut self.members)?;
+        let list = kill_all(&mut self.members)?;
+        let floors = Floors::of(*self.members.allocator(), &list)?;
         self.owner.apply(BOARD, &OwnerCall::Reset { floors })?;
         Ok(())
     }
