@@ -17,6 +17,8 @@ mod tests;
 mod thread_tests;
 mod threads;
 mod top;
+#[cfg(test)]
+mod wire_tests;
 mod words;
 mod writing;
 
