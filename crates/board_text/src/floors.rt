@@ -113,10 +113,14 @@ impl Floors {
         Floors { items: &NO_FLOORS }
     }
 
-    /// The floors of a list. Their memory stays, even when the floors are gone.
+    /// The floors of a list. Their memory stays, even when the floors are gone; an empty list takes none.
     pub fn of(alloc: Global, list: &FloorList) -> Result<Floors, NoMemory>
-        ensures { IfOk result (λ floors. floors ≡ list.now) }
+        ensures value { IfOk result (λ floors. floors ≡ list.now) }
+        ensures memory { list.now ≡ [] → IsOk result }
     {
+        if list.items.as_slice().is_empty() {
+            return Ok(Floors::new());
+        }
         let items = Vec::from_slice(alloc, list.items.as_slice())?.leak();
         Ok(Floors { items })
     }

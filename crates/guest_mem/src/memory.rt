@@ -33,7 +33,7 @@ impl Model for GuestMem {
 // How many zeros are added at once.
 const PART_SIZE: usize = 1024;
 
-const PARTS_IN_PAGE: u32 = 4;
+const PARTS_IN_PAGE: u32 = PAGE_SIZE as u32 / PART_SIZE as u32;
 
 // So many parts of zeros.
 fn zeros(alloc: Global, parts: u32) -> Result<Vec<u8>, NoMemory>
