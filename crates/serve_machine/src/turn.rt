@@ -7,7 +7,7 @@ use crate::completion::{completed_under, put_completed_with};
 use crate::stage::{Fetched, Stage};
 use admin_wire::LegacyCmd;
 use board_text::Piece;
-use group_calls::{OwnerReply, RingReply, Told};
+use group_calls::{OwnerReply, Placed, RingReply, Told};
 
 /// Nothing is left to ask.
 pub(crate) fn put_ended(stage: &mut Stage)
@@ -42,22 +42,24 @@ pub(crate) fn put_after_pop(told: &Told, stage: &mut Stage)
     ensures { stage.new ≡ after_pop told.now }
 {
     match told {
-        Told::Queue(placed) => match &placed.reply {
-            RingReply::Fetched {
-                seq,
-                bytes,
-                writable,
-                tag,
-            } => {
-                let command = Fetched {
-                    seq: *seq,
-                    writable: *writable,
-                    tag: *tag,
-                };
-                put_judging(command, bytes, stage);
-            }
-            _ => put_ended(stage),
-        },
+        Told::Queue(
+            Placed {
+                reply: RingReply::Fetched {
+                    seq,
+                    bytes,
+                    writable,
+                    tag,
+                },
+                ..
+            },
+        ) => {
+            let command = Fetched {
+                seq: *seq,
+                writable: *writable,
+                tag: *tag,
+            };
+            put_judging(command, bytes, stage);
+        }
         _ => put_ended(stage),
     }
 }
